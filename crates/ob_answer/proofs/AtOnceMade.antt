@@ -1,7 +1,7 @@
 -- The same of pictures and of workers.
 use Rattle.std.proofs.Common.{◌<◌, ℕ, List, Option, length}
-use Rattle.ob_desk_texts.specs.ServedTexts.{IsUngatedRefusal, calls_texts}
-use Rattle.ob_desk_texts.specs.declared.texts.ServeTextFault.TheVariants as Serve
+use Rattle.ob_desk_serve.specs.ServedTexts.{IsUngatedRefusal, calls_texts}
+use Rattle.ob_desk_serve.specs.declared.texts.ServeTextFault.TheVariants as Serve
 use Rattle.ob_object_compile.specs.Asked.{Asked}
 use Rattle.ob_object_compile.specs.Compilation as Compiles
 use Rattle.ob_object_compile.specs.declared.compiling.CompileFault.{CompileFault}
@@ -9,7 +9,7 @@ use Rattle.ob_object_perform.specs.Pictured.{IsDrawRefusal}
 use Rattle.ob_object_perform.specs.Texts.{Texts}
 use Rattle.ob_object_perform.specs.declared.drawing.DrawFault.TheVariants as Draw
 use Rattle.ob_object_perform.specs.declared.performing.PerformFault.TheVariants as Perform
-use Rattle.ob_text_picture_chart.specs.declared.charts.CallRange.{CallRange}
+use Rattle.ob_picture_chart.specs.declared.charts.CallRange.{CallRange}
 use Rattle.ob_answer_explained.proofs.AtOnce.{IsAtOnce, run_refused}
 
 pub picture_refused : (t : Texts) (calls : Option CallRange) (c : CompileFault) → 65536 < length t.asked.text → IsAtOnce t.asked c

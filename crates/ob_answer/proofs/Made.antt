@@ -7,7 +7,7 @@ use Rattle.ob_answer_explained.specs.CommandTexts.{of_text}
 use Rattle.ob_answer_files.specs.declared.answered.Answer.{Answer}
 use Rattle.ob_answer_explained.proofs.AtOnce.{IsAtOnce, no_module, refused_of_whole, too_long_scan}
 use Rattle.ob_answer_explained.proofs.Beginnings.{beginning, of_whole_or_long}
-use Rattle.ob_check_text.specs.declared.checked_text.TextFault.TheVariants as Texts
+use Rattle.ob_check.specs.declared.checked_text.TextFault.TheVariants as Texts
 use Rattle.ob_command.specs.CommandLine.{Text}
 use Rattle.ob_fault_lines.specs.DrawFaultLines.{draw_record_fault_line}
 use Rattle.ob_fault_lines.specs.VerifyFaultLines.{verify_fault_line}
@@ -21,13 +21,13 @@ use Rattle.ob_object_perform.specs.Pictured as Pictured
 use Rattle.ob_object_perform.specs.declared.drawing.DrawFault.{DrawFault}
 use Rattle.ob_object_perform.specs.declared.drawing.DrawFault.TheVariants as Draw
 use Rattle.ob_object_perform.specs.declared.performing.PerformFault.TheVariants as Perform
-use Rattle.ob_object_verify.specs.Verified.{IsVerified}
-use Rattle.ob_object_verify.specs.VerifyFaults as Verifies
-use Rattle.ob_object_verify.specs.VerifyFaults.{IsVerifyFault}
-use Rattle.ob_object_verify.specs.declared.verifying.VerifyFault.{VerifyFault}
-use Rattle.ob_object_verify.specs.declared.verifying.VerifyFault.TheVariants as Verify
+use Rattle.ob_object_calls.specs.Verified.{IsVerified}
+use Rattle.ob_object_calls.specs.VerifyFaults as Verifies
+use Rattle.ob_object_calls.specs.VerifyFaults.{IsVerifyFault}
+use Rattle.ob_object_calls.specs.declared.verifying.VerifyFault.{VerifyFault}
+use Rattle.ob_object_calls.specs.declared.verifying.VerifyFault.TheVariants as Verify
 use Rattle.ob_scan.specs.declared.fault.ScanFault.TheVariants as Scan
-use Rattle.ob_text_picture_chart.specs.declared.charts.CallRange.{CallRange}
+use Rattle.ob_picture_chart.specs.declared.charts.CallRange.{CallRange}
 use Rattle.ob_answer_explained.proofs.RecordRefused.{record_refused}
 
 -- the line of a fault by which texts are refused; `compiling` tells those of an object

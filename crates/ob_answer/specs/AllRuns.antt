@@ -4,9 +4,9 @@ use Rattle.ob_answer.specs.declared.all_runs.AllRuns as Rust
 use Rattle.ob_answer.specs.declared.all_runs.AllRuns.TheVariants as Variants
 use Rattle.ob_answer_explained.specs.CommandTexts.{CallsTexts}
 use Rattle.ob_answer_files.specs.declared.answered.Answer.{Answer}
-use Rattle.ob_answer_outcomes.specs.ExplainedAlways.{IsAlwaysExplained}
-use Rattle.ob_answer_outcomes.specs.OutcomesAnswers.{IsOutcomesAnswer, Looking, looking_of}
-use Rattle.ob_answer_wholes.specs.WholesAnswers.{IsWholesAnswer}
+use Rattle.ob_answer_searches.specs.ExplainedAlways.{IsAlwaysExplained}
+use Rattle.ob_answer_searches.specs.OutcomesAnswers.{IsOutcomesAnswer, Looking, looking_of}
+use Rattle.ob_answer_searches.specs.WholesAnswers.{IsWholesAnswer}
 use Rattle.ob_command.specs.CommandLine.{OutcomesRequest, Text}
 
 -- what may happen in them, or each outcome as a whole, or how one comes to where an export does not answer TRUE

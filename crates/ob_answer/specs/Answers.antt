@@ -9,8 +9,8 @@ use Rattle.ob_fault_lines.specs.RunFaultLines.{run_fault_line}
 use Rattle.ob_fault_lines.specs.SequentialFaultLines.{seq_fault_line}
 use Rattle.ob_fault_lines.specs.ServeFaultLines.{serve_fault_line}
 use Rattle.ob_fault_lines.specs.VerifyFaultLines.{verify_fault_line}
-use Rattle.ob_desk_texts.specs.ServedTexts.{IsServedPrinted}
-use Rattle.ob_object_bound.specs.Numbers.{IsBoundText}
+use Rattle.ob_desk_serve.specs.ServedTexts.{IsServedPrinted}
+use Rattle.ob_object_perform.specs.Numbers.{IsBoundText}
 use Rattle.ob_object_compile.specs.Asked.{Asked, ByBody, by_body}
 use Rattle.ob_object_compile.specs.Compilation.{IsAny, default_budget}
 use Rattle.ob_object_compile.specs.Listed.{IsListing}
@@ -18,18 +18,18 @@ use Rattle.ob_object_draw.specs.RecordPictures.{IsRecordPicture}
 use Rattle.ob_object_perform.specs.Pictured.{IsPicturePrinted}
 use Rattle.ob_object_perform.specs.Printed.{IsPrintedOf, IsRecordPrinted}
 use Rattle.ob_object_perform.specs.Texts.{Texts}
-use Rattle.ob_text_picture_chart.specs.declared.charts.CallRange.{CallRange}
-use Rattle.ob_object_sequence.specs.SequentialRun.{HasObject, IsSequentialRun}
-use Rattle.ob_object_sequence.specs.ToldRun.{IsToldRun}
-use Rattle.ob_object_sequence.specs.declared.told.Details.{Details}
-use Rattle.ob_object_search_draw.specs.Forms.{is_record_form}
-use Rattle.ob_object_spent.specs.Spent.{IsPrintedWithSteps}
-use Rattle.ob_object_state.specs.Behind.{IsStatePrinted}
-use Rattle.ob_object_tree.specs.TreeRuns.{IsPrintedOfCode}
-use Rattle.ob_object_verify.specs.Verified.{IsVerified}
-use Rattle.ob_answer_orders.specs.HistoryPictureAnswers.{IsHistoryPictureAnswer}
-use Rattle.ob_schedule_made.specs.Chance.{IsOfSteps}
-use Rattle.ob_schedule_made.specs.Finish.{IsFinished}
+use Rattle.ob_picture_chart.specs.declared.charts.CallRange.{CallRange}
+use Rattle.ob_object_calls.specs.SequentialRun.{HasObject, IsSequentialRun}
+use Rattle.ob_object_calls.specs.ToldRun.{IsToldRun}
+use Rattle.ob_object_calls.specs.declared.told.Details.{Details}
+use Rattle.ob_object_draw.specs.Forms.{is_record_form}
+use Rattle.ob_object_perform.specs.Spent.{IsPrintedWithSteps}
+use Rattle.ob_object_perform.specs.Behind.{IsStatePrinted}
+use Rattle.ob_object_perform.specs.TreeRuns.{IsPrintedOfCode}
+use Rattle.ob_object_calls.specs.Verified.{IsVerified}
+use Rattle.ob_answer_searches.specs.HistoryPictureAnswers.{IsHistoryPictureAnswer}
+use Rattle.ob_text_scripts.specs.Chance.{IsOfSteps}
+use Rattle.ob_text_scripts.specs.Finish.{IsFinished}
 use Rattle.ob_command.specs.CommandLine.{CallsRequest, ChanceRequest, Request, RunRequest, SeqRequest, Text, default_most, Check, Listing, Seq, Live, Run, RunTree, RunSteps, RunFinished, RunByChance, Serve, Draw, DrawHistory, DrawRecord, Outcomes, State, Verify, Order, request}
 use Rattle.ob_command.specs.CommandLine.{Explain, ExplainAlways, ExplainCalls, ExplainTraps, ExplainRun, ExplainRecord, ExplainHistory, Bound, Help, Version, Unclear}
 use Rattle.ob_command.specs.Commands.{IsMistakeTextOf, calls_request_of, chance_request_of, run_request_of}
@@ -47,8 +47,8 @@ use Rattle.ob_answer.specs.declared.product.Product.TheVariants as Products
 use Rattle.ob_answer_explained.specs.Beginnings.{WithBeginning}
 use Rattle.ob_answer_explained.specs.CommandTexts.{CallsTexts, RunTexts, asked_by, calls_texts, first_or_none, record_file, run_texts_by}
 use Rattle.ob_answer_explained.specs.Explains.{AreTrapsExplained, IsCallsExplained, IsModuleExplained, IsRecordExplained, IsRunExplained, IsValuesFaultTold}
-use Rattle.ob_answer_orders.specs.ExplainedOrders.{IsHistoryExplained}
-use Rattle.ob_answer_orders.specs.Orders.{IsProductAnswer}
+use Rattle.ob_answer_searches.specs.ExplainedOrders.{IsHistoryExplained}
+use Rattle.ob_answer_searches.specs.Orders.{IsProductAnswer}
 use Rattle.ob_answer_files.specs.Printed.{IsPrinted, IsPrintedBeside, IsRefused, IsTextAnswer}
 use Rattle.ob_answer_files.specs.Reads.{IsOutcome, files_of_calls, files_of_run, record_in_calls, record_in_run}
 use Rattle.ob_answer_files.specs.declared.reading.CallsBytes.{CallsBytes}

@@ -1,9 +1,9 @@
 -- With which fault bytes are refused: the fault has a number, so it is no want of memory; what it says of them is true; and they have nothing
 -- of what is asked for, whatever else is wrong with them.
 use Rattle.std.specs.Prelude.{◌≢◌, ℕ, List, Option}
-use Rattle.ob_desk_texts.specs.ServedTexts as Serves
-use Rattle.ob_desk_texts.specs.ServedTexts.{IsUngatedRefusal}
-use Rattle.ob_desk_texts.specs.declared.texts.ServeTextFault.{ServeTextFault}
+use Rattle.ob_desk_serve.specs.ServedTexts as Serves
+use Rattle.ob_desk_serve.specs.ServedTexts.{IsUngatedRefusal}
+use Rattle.ob_desk_serve.specs.declared.texts.ServeTextFault.{ServeTextFault}
 use Rattle.ob_object_compile.specs.Asked.{Asked}
 use Rattle.ob_object_compile.specs.Compilation.{IsAny}
 use Rattle.ob_object_draw.specs.RecordPictures as RecordPictures
@@ -15,8 +15,8 @@ use Rattle.ob_object_perform.specs.Texts.{Texts}
 use Rattle.ob_object_perform.specs.declared.drawing.DrawFault.{DrawFault}
 use Rattle.ob_object_perform.specs.declared.drawing.DrawFault.TheVariants as Draws
 use Rattle.ob_object_perform.specs.declared.performing.PerformFault.{PerformFault}
-use Rattle.ob_text_picture_chart.specs.declared.charts.CallRange.{CallRange}
-use Rattle.ob_text_picture_chart.specs.declared.fault.PictureFault.TheVariants as Pictures
+use Rattle.ob_picture_chart.specs.declared.charts.CallRange.{CallRange}
+use Rattle.ob_picture_chart.specs.declared.fault.PictureFault.TheVariants as Pictures
 
 -- the calls of a script on an object that is asked for, made by workers
 abbrev pub RefusesWorkers : Asked → (script_bytes : List ℕ) → ServeTextFault → Type 0

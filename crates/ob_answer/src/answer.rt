@@ -19,16 +19,16 @@ use crate::product::{CallsProduct, Product};
 use ob_answer_files::answered::Answer;
 use ob_answer_files::files::{FileFault, Files};
 use ob_answer_files::reading::{MODULE_BYTES, TwoFiles, read_two, unreadable};
-use ob_answer_orders::drawing::{HistoryDrawing, answer_draw_history};
-use ob_answer_orders::ordering::answer_order;
-use ob_answer_outcomes::answering::Looking;
+use ob_answer_searches::drawing::{HistoryDrawing, answer_draw_history};
+use ob_answer_searches::ordering::answer_order;
+use ob_answer_searches::outcomes_answering::Looking;
 use ob_command::command::{
     CallNumbers, CallsCommand, Command, OrderCommand, OutcomesCommand, RunCommand, SeenCommand,
     SeqCommand, Stop, read_command,
 };
 use ob_interface::NoMemory;
-use ob_object_sequence::Details;
-use ob_text_picture_chart::CallRange;
+use ob_object_calls::Details;
+use ob_picture_chart::CallRange;
 use std::alloc::Global;
 use std::random::RandomSource;
 use std::sync::Wait;

@@ -18,11 +18,11 @@ ghost use Rattle.ob_object_compile.specs.Compilation as Compiles;
 ghost use Rattle.ob_object_compile.specs.View.{asked_of, beginning_of};
 ghost use Rattle.ob_object_perform.specs.Performance as Performs;
 ghost use Rattle.ob_object_perform.specs.Texts.{texts_of};
-ghost use Rattle.ob_object_sequence.specs.SequentialRun.{is_want_of_memory};
+ghost use Rattle.ob_object_calls.specs.SequentialRun.{is_want_of_memory};
 
 use ob_answer_files::answered::{Answer, refused};
-use ob_answer_orders::drawing::{HistoryDrawing, answer_draw_history};
-use ob_desk_texts::{ServeTextFault, serve_text};
+use ob_answer_searches::drawing::{HistoryDrawing, answer_draw_history};
+use ob_desk_serve::{ServeTextFault, serve_text};
 use ob_fault_lines::compile_faults::compile_fault_line;
 use ob_fault_lines::draw_faults::{draw_fault_line, draw_record_fault_line};
 use ob_fault_lines::run_faults::run_fault_line;
@@ -30,17 +30,16 @@ use ob_fault_lines::sequential_faults::seq_fault_line;
 use ob_fault_lines::serve_faults::serve_fault_line;
 use ob_fault_lines::verify_faults::verify_fault_line;
 use ob_interface::NoMemory;
-use ob_object_bound::bound_text;
+use ob_object_calls::{
+    Details, SeqTextFault, VerifyFault, check_text, seq_asked, seq_asked_told, verify_text,
+};
 use ob_object_compile::{Asked, Beginning, CompileFault, list_text};
-use ob_object_draw::{DrawRecordFault, draw_record_text};
-use ob_object_perform::{DrawFault, PerformFault, Texts, draw_text, run_text};
-use ob_object_search_draw::is_record_form;
-use ob_object_sequence::{Details, SeqTextFault, check_text, seq_asked, seq_asked_told};
-use ob_object_spent::run_text_with_steps;
-use ob_object_state::state_text;
-use ob_object_tree::run_tree_text;
-use ob_object_verify::{VerifyFault, verify_text};
-use ob_text_picture_chart::CallRange;
+use ob_object_draw::{DrawRecordFault, draw_record_text, is_record_form};
+use ob_object_perform::{
+    DrawFault, PerformFault, Texts, bound_text, draw_text, run_text, run_text_with_steps,
+    run_tree_text, state_text,
+};
+use ob_picture_chart::CallRange;
 use std::alloc::Global;
 use std::random::RandomSource;
 use std::sync::Wait;

@@ -12,8 +12,8 @@ use ob_answer_files::files::Files;
 use ob_answer_files::reading::{CallsBytes, CallsFiles, RunBytes, RunFiles, read_calls, read_run};
 use ob_command::command::{ChanceCommand, RunCommand, RunProduct};
 use ob_interface::NoMemory;
-use ob_schedule_made::chance::schedule_by_chance;
-use ob_schedule_made::finish::finished_schedule;
+use ob_text_scripts::chance::schedule_by_chance;
+use ob_text_scripts::finish::finished_schedule;
 use std::alloc::{AllocError, Global};
 
 /// The name of the file of a schedule that is of no file.

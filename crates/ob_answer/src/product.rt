@@ -1,7 +1,7 @@
 //! What is printed of runs and of calls.
 
-use ob_object_sequence::Details;
-use ob_text_picture_chart::CallRange;
+use ob_object_calls::Details;
+use ob_picture_chart::CallRange;
 
 /// What is printed of a run: the text of its record, by the code or by the tree of the module, or with the own steps of its calls;
 /// the state behind it; or a picture of some calls or of all; or what is wrong with its texts.

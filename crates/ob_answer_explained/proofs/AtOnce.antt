@@ -11,8 +11,8 @@ use Rattle.ob_object_compile.specs.declared.compiling.CompileFault.TheVariants a
 use Rattle.ob_object_perform.specs.Performance as Performs
 use Rattle.ob_object_perform.specs.Texts.{Texts}
 use Rattle.ob_object_perform.specs.declared.performing.PerformFault.TheVariants as Perform
-use Rattle.ob_object_sequence.specs.SequentialRun.{IsSeqRefusal}
-use Rattle.ob_object_sequence.specs.declared.sequential.SeqTextFault.TheVariants as Runs
+use Rattle.ob_object_calls.specs.SequentialRun.{IsSeqRefusal}
+use Rattle.ob_object_calls.specs.declared.sequential.SeqTextFault.TheVariants as Runs
 use Rattle.ob_scan.specs.ScanFaults.{IsScanFault}
 use Rattle.ob_scan.specs.declared.fault.ScanFault.TheVariants as Scan
 use Rattle.ob_typing.specs.ModuleText.{IsModule}

@@ -3,11 +3,11 @@ use Rattle.std.proofs.Common.{◌≡◌, ◌≢◌, ◌<◌, ℕ, List, inl, inr
 use Rattle.ob_answer_explained.specs.Refusals.{RefusesRecord}
 use Rattle.ob_answer_explained.proofs.AtOnce.{no_module, too_long_scan}
 use Rattle.ob_answer_explained.proofs.Beginnings.{beginning, of_whole_or_long}
-use Rattle.ob_object_verify.specs.Verified.{IsVerified}
-use Rattle.ob_object_verify.specs.VerifyFaults as Verifies
-use Rattle.ob_object_verify.specs.VerifyFaults.{IsVerifyFault}
-use Rattle.ob_object_verify.specs.declared.verifying.VerifyFault.{VerifyFault}
-use Rattle.ob_object_verify.specs.declared.verifying.VerifyFault.TheVariants as Verify
+use Rattle.ob_object_calls.specs.Verified.{IsVerified}
+use Rattle.ob_object_calls.specs.VerifyFaults as Verifies
+use Rattle.ob_object_calls.specs.VerifyFaults.{IsVerifyFault}
+use Rattle.ob_object_calls.specs.declared.verifying.VerifyFault.{VerifyFault}
+use Rattle.ob_object_calls.specs.declared.verifying.VerifyFault.TheVariants as Verify
 
 pub numbered_verify : (e : VerifyFault) → e ≢ Verify.NoMemory → Verifies.TellsMemoryApart e → Verifies.IsNumbered e
 numbered_verify e known apart = elim apart [ inl is ↦ absurd (known is) | inr h ↦ h ]

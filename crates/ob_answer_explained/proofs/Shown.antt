@@ -10,14 +10,14 @@ use Rattle.ob_command.specs.CommandLine.{Text}
 use Rattle.ob_object_compile.specs.Asked.{Asked, TellsAtOnce}
 use Rattle.ob_object_compile.specs.declared.compiling.CompileFault.{CompileFault}
 use Rattle.ob_object_perform.specs.declared.performing.PerformFault.TheVariants as Perform
-use Rattle.ob_object_sequence.specs.SequentialRun.{IsNumbered, IsSeqRefusal}
-use Rattle.ob_object_sequence.specs.declared.sequential.SeqTextFault.{SeqTextFault}
-use Rattle.ob_object_sequence.specs.declared.sequential.SeqTextFault.TheVariants as Runs
-use Rattle.ob_object_verify.specs.Verified.{IsVerified}
-use Rattle.ob_object_verify.specs.VerifyFaults as Verifies
-use Rattle.ob_object_verify.specs.VerifyFaults.{IsVerifyFault}
-use Rattle.ob_object_verify.specs.declared.verifying.VerifyFault.{VerifyFault}
-use Rattle.ob_object_verify.specs.declared.verifying.VerifyFault.TheVariants as Verify
+use Rattle.ob_object_calls.specs.SequentialRun.{IsNumbered, IsSeqRefusal}
+use Rattle.ob_object_calls.specs.declared.sequential.SeqTextFault.{SeqTextFault}
+use Rattle.ob_object_calls.specs.declared.sequential.SeqTextFault.TheVariants as Runs
+use Rattle.ob_object_calls.specs.Verified.{IsVerified}
+use Rattle.ob_object_calls.specs.VerifyFaults as Verifies
+use Rattle.ob_object_calls.specs.VerifyFaults.{IsVerifyFault}
+use Rattle.ob_object_calls.specs.declared.verifying.VerifyFault.{VerifyFault}
+use Rattle.ob_object_calls.specs.declared.verifying.VerifyFault.TheVariants as Verify
 
 -- a refusal of the beginning, and what is shown of it, are those of the whole text
 pub record RefusedAndShown {F : Type 0} (Refusal : F → Type 0) (Shown : F → Answer → Type 0) (e : F) (x : Answer) : Type 0 where

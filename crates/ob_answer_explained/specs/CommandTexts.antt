@@ -10,7 +10,7 @@ use Rattle.ob_command.specs.CommandLine.{CallsRequest, RunRequest, Text}
 use Rattle.ob_command.specs.Commands.{calls_request_of, run_request_of}
 use Rattle.ob_command.specs.declared.command.CallsCommand.{CallsCommand}
 use Rattle.ob_command.specs.declared.command.RunCommand.{RunCommand}
-use Rattle.ob_explained_runs.specs.Sources.{Source}
+use Rattle.ob_explained.specs.Sources.{Source}
 use Rattle.ob_object_compile.specs.Asked.{Asked, Beginning}
 use Rattle.ob_object_compile.specs.View.{asked_of}
 use Rattle.ob_object_perform.specs.Texts.{Texts, run_texts, texts_of}

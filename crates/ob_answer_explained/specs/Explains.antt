@@ -8,11 +8,11 @@ use Rattle.ob_answer_files.specs.ShownNames.{shown}
 use Rattle.ob_carry.specs.declared.carrying.CarryFault.{CarryFault}
 use Rattle.ob_command.specs.CommandLine.{Text}
 use Rattle.ob_explained.specs.Explained.{IsCallsExplanation, IsModuleExplanation}
-use Rattle.ob_explained_values.specs.ExplainedValues.{IsCarryExplanation, IsValuesExplanation}
+use Rattle.ob_explained.specs.ExplainedValues.{IsCarryExplanation, IsValuesExplanation}
 use Rattle.ob_explained_records.specs.ExplainedRecords.{IsRecordExplanation}
-use Rattle.ob_explained_runs.specs.ExplainedRuns.{IsRunExplanation}
-use Rattle.ob_explained_runs.specs.Sources.{Source}
-use Rattle.ob_explained_traps.specs.TrapsText.{IsTrapsText}
+use Rattle.ob_explained.specs.ExplainedRuns.{IsRunExplanation}
+use Rattle.ob_explained.specs.Sources.{Source}
+use Rattle.ob_explained_records.specs.TrapsText.{IsTrapsText}
 use Rattle.ob_fault_lines.specs.RunFaultLines.{run_fault_line}
 use Rattle.ob_fault_lines.specs.ValuesFaultLines.{values_fault_line}
 use Rattle.ob_fault_lines.specs.VerifyFaultLines.{verify_fault_line}
@@ -25,11 +25,11 @@ use Rattle.ob_object_compile.specs.declared.compiling.CompileFault.TheVariants a
 use Rattle.ob_object_perform.specs.Printed.{HasPerformance}
 use Rattle.ob_object_perform.specs.declared.performing.PerformFault.{PerformFault}
 use Rattle.ob_object_perform.specs.declared.performing.PerformFault.TheVariants as Performs
-use Rattle.ob_object_sequence.specs.SequentialRun.{HasObject, IsSequentialRun}
-use Rattle.ob_object_sequence.specs.declared.sequential.SeqTextFault.{SeqTextFault}
-use Rattle.ob_object_sequence.specs.declared.sequential.SeqTextFault.TheVariants as Sequences
-use Rattle.ob_object_verify.specs.Verified.{IsVerified}
-use Rattle.ob_object_verify.specs.declared.verifying.VerifyFault.{VerifyFault}
+use Rattle.ob_object_calls.specs.SequentialRun.{HasObject, IsSequentialRun}
+use Rattle.ob_object_calls.specs.declared.sequential.SeqTextFault.{SeqTextFault}
+use Rattle.ob_object_calls.specs.declared.sequential.SeqTextFault.TheVariants as Sequences
+use Rattle.ob_object_calls.specs.Verified.{IsVerified}
+use Rattle.ob_object_calls.specs.declared.verifying.VerifyFault.{VerifyFault}
 use Rattle.ob_text_values_reading.specs.declared.reading.ValuesFault.{ValuesFault}
 
 -- Where the files are right, `ok` is printed; else a fault by which they are refused is shown.

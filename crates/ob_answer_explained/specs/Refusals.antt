@@ -8,13 +8,13 @@ use Rattle.ob_object_compile.specs.declared.compiling.CompileFault.{CompileFault
 use Rattle.ob_object_perform.specs.Performance as Performs
 use Rattle.ob_object_perform.specs.Texts.{Texts}
 use Rattle.ob_object_perform.specs.declared.performing.PerformFault.{PerformFault}
-use Rattle.ob_object_sequence.specs.SequentialRun as Sequences
-use Rattle.ob_object_sequence.specs.SequentialRun.{IsSeqRefusal}
-use Rattle.ob_object_sequence.specs.declared.sequential.SeqTextFault.{SeqTextFault}
-use Rattle.ob_object_verify.specs.Verified.{IsVerified}
-use Rattle.ob_object_verify.specs.VerifyFaults as Verifies
-use Rattle.ob_object_verify.specs.VerifyFaults.{IsVerifyFault}
-use Rattle.ob_object_verify.specs.declared.verifying.VerifyFault.{VerifyFault}
+use Rattle.ob_object_calls.specs.SequentialRun as Sequences
+use Rattle.ob_object_calls.specs.SequentialRun.{IsSeqRefusal}
+use Rattle.ob_object_calls.specs.declared.sequential.SeqTextFault.{SeqTextFault}
+use Rattle.ob_object_calls.specs.Verified.{IsVerified}
+use Rattle.ob_object_calls.specs.VerifyFaults as Verifies
+use Rattle.ob_object_calls.specs.VerifyFaults.{IsVerifyFault}
+use Rattle.ob_object_calls.specs.declared.verifying.VerifyFault.{VerifyFault}
 
 -- an object that is asked for
 abbrev pub RefusesObject : Asked → CompileFault → Type 0

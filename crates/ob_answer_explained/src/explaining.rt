@@ -6,7 +6,7 @@ ghost use Rattle.ob_answer_explained.specs.Explains.{carry_fault_in, carry_fault
 ghost use Rattle.ob_answer_files.specs.Reads.{OfWhole};
 ghost use Rattle.ob_answer_explained.specs.CommandTexts.{calls_of_text, calls_texts_of};
 ghost use Rattle.ob_object_compile.specs.Compilation as Compiles;
-ghost use Rattle.ob_object_sequence.specs.SequentialRun.{is_want_of_memory};
+ghost use Rattle.ob_object_calls.specs.SequentialRun.{is_want_of_memory};
 
 use crate::showing::{carry_shown, shown_name, shown_or};
 use crate::texts::Calls;
@@ -16,8 +16,8 @@ use ob_explained::{calls_explanation, module_explanation};
 use ob_fault_lines::compile_faults::compile_fault_line;
 use ob_fault_lines::sequential_faults::seq_fault_line;
 use ob_interface::NoMemory;
+use ob_object_calls::{SeqTextFault, check_text, seq_asked};
 use ob_object_compile::{Beginning, CompileFault};
-use ob_object_sequence::{SeqTextFault, check_text, seq_asked};
 use std::alloc::{AllocError, Global};
 
 /// The answer to the name and the beginning of a module's text.

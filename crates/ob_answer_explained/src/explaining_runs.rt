@@ -11,13 +11,13 @@ use crate::showing::{carry_shown, shown_name, shown_or};
 use crate::texts::Run;
 use ob_answer_files::answered::Answer;
 use ob_carry::carrying::CarryFault;
+use ob_explained::{Source, run_explanation};
 use ob_explained_records::record_explanation;
-use ob_explained_runs::{Source, run_explanation};
 use ob_fault_lines::run_faults::run_fault_line;
 use ob_fault_lines::verify_faults::verify_fault_line;
 use ob_interface::NoMemory;
+use ob_object_calls::{VerifyFault, verify_text};
 use ob_object_perform::{PerformFault, performed};
-use ob_object_verify::{VerifyFault, verify_text};
 use std::alloc::{AllocError, Global};
 
 /// The answer to a run.

@@ -9,8 +9,8 @@ use crate::explaining::calls_wrong;
 use crate::showing::shown_name;
 use crate::texts::Calls;
 use ob_answer_files::answered::Answer;
-use ob_explained_runs::Source;
-use ob_explained_traps::traps_text;
+use ob_explained::Source;
+use ob_explained_records::traps_text;
 use ob_interface::NoMemory;
 use std::alloc::Global;
 

@@ -3,7 +3,7 @@
 ghost use Rattle.std.specs.Prelude.{◌≡◌, IfOk, option_map, string_bytes};
 ghost use Rattle.ob_answer_explained.specs.CommandTexts.{named_source};
 ghost use Rattle.ob_answer_explained.specs.Explains.{IsShownOr, IsValuesFaultTold};
-ghost use Rattle.ob_explained_values.specs.ExplainedValues.{IsCarryExplanation};
+ghost use Rattle.ob_explained.specs.ExplainedValues.{IsCarryExplanation};
 ghost use Rattle.ob_answer_files.specs.ShownNames.{shown};
 ghost use Rattle.ob_text_values_reading.specs.ToldValues.{SaysNone};
 
@@ -11,8 +11,7 @@ use crate::texts::name_or_none;
 use ob_answer_files::answered::{Answer, refused};
 use ob_answer_files::shown_name::push_name;
 use ob_carry::carrying::CarryFault;
-use ob_explained_runs::Source;
-use ob_explained_values::{carry_explanation, values_explanation};
+use ob_explained::{Source, carry_explanation, values_explanation};
 use ob_fault_lines::values_faults::values_fault_line;
 use ob_interface::NoMemory;
 use ob_text_values_reading::ValuesFault;

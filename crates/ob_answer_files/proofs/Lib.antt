@@ -1,1 +1,4 @@
+pub mod Cuts
 pub mod FilesRead
+pub mod HandedOver
+pub mod Named

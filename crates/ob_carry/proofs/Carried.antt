@@ -8,18 +8,18 @@ use Rattle.std.proofs.lemmas.List.Elements.{All-head, All-more, All-tail}
 use Rattle.std.proofs.lemmas.Option.{slice_get_read}
 use Rattle.std.proofs.lemmas.Slice.Eq.{bytes_eq-Decides}
 use Rattle.std.specs.Prelude.{Contains, bytes_eq, slice_get, string_bytes}
-use Rattle.ob_agreement.proofs.SameStatements.{begun_same}
-use Rattle.ob_agreement.proofs.SameValues.{if_true, if_false}
-use Rattle.ob_agreement.specs.Resolved.{AreDistinct, NoneCalled, as_parameter, module_scope}
-use Rattle.ob_agreement.specs.Same.{SameActivation, SameElements, SameFields, SameHeld, SameState, SameValue, Scopes}
+use Rattle.ob_meaning.proofs.SameStatements.{begun_same}
+use Rattle.ob_meaning.proofs.SameValues.{if_true, if_false}
+use Rattle.ob_meaning.specs.Resolved.{AreDistinct, NoneCalled, as_parameter, module_scope}
+use Rattle.ob_meaning.specs.Same.{SameActivation, SameElements, SameFields, SameHeld, SameState, SameValue, Scopes}
 use Rattle.ob_interface.specs.declared.scalar.Scalar.TheVariants as Scalars
 use Rattle.ob_interface.specs.declared.scalar.ScalarType.{ScalarType}
 use Rattle.ob_interface.specs.declared.scalar.ScalarType.TheVariants.{Integer, Boolean}
-use Rattle.ob_meaning.specs.Object as Objects
-use Rattle.ob_meaning.specs.Store as Names
-use Rattle.ob_meaning.specs.Value as Named
-use Rattle.ob_positions.specs.Store.{Activation, Held, Holds, Refers, begun, with_held, with_value}
-use Rattle.ob_positions.specs.Value.{Value, Values, Single, Parts, no_part, part}
+use Rattle.ob_meaning.specs.ByNameObject as Objects
+use Rattle.ob_meaning.specs.ByNameStore as Names
+use Rattle.ob_meaning.specs.ByNameValue as Named
+use Rattle.ob_meaning.specs.ByPositionStore.{Activation, Held, Holds, Refers, begun, with_held, with_value}
+use Rattle.ob_meaning.specs.ByPositionValue.{Value, Values, Single, Parts, no_part, part}
 use Rattle.ob_typing.specs.Program.{Name, DataType, Simple, Array, Record, Fields, no_field, field, Variable, Program}
 use Rattle.ob_checked.specs.View.{program_of}
 use Rattle.ob_checked.specs.declared.program.Program as Checked

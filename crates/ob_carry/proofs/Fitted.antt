@@ -10,9 +10,9 @@ use Rattle.ob_checked.specs.declared.types.DataType.{DataType}
 use Rattle.ob_checked.specs.Types.{fields_by, type_by}
 use Rattle.ob_store.specs.declared.value.Value.{Value}
 use Rattle.ob_store.specs.View.{value_in, values_in}
-use Rattle.ob_agreement.specs.Same.{SameElements, SameFields, SameValue}
-use Rattle.ob_meaning.specs.Value as Named
-use Rattle.ob_positions.specs.Value as Values
+use Rattle.ob_meaning.specs.Same.{SameElements, SameFields, SameValue}
+use Rattle.ob_meaning.specs.ByNameValue as Named
+use Rattle.ob_meaning.specs.ByPositionValue as Values
 use Rattle.ob_carry.specs.declared.named.NamedField.{NamedField}
 use Rattle.ob_carry.specs.declared.named.NamedValue.{NamedValue}
 use Rattle.ob_carry.specs.Values.{IsValueOf, AreElements, AreFieldsOf, IsFitted, AreFittedElements, AreFittedFields}

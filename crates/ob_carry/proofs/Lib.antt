@@ -1,4 +1,11 @@
-pub mod Rows
-pub mod Fitted
-pub mod Variables
 pub mod Carried
+pub mod Exported
+pub mod Fitted
+pub mod Named
+pub mod Rows
+pub mod Runs
+pub mod Sets
+pub mod Stores
+pub mod Telling
+pub mod Told
+pub mod Variables

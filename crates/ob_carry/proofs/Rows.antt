@@ -6,7 +6,7 @@ use Rattle.ob_carry.specs.declared.named.NamedField.{NamedField}
 use Rattle.ob_carry.specs.declared.named.NamedValue.{NamedValue, Row_of-NamedValue, end_of-NamedValue, more_of-NamedValue, items-the_row-NamedValue, items_hidden-the_row-NamedValue-0, Row_of-NamedField, end_of-NamedField, more_of-NamedField, items-the_row-NamedField, items_hidden-the_row-NamedField-1}
 use Rattle.ob_carry.specs.declared.named.NamedValue.TheVariants as Variants
 use Rattle.ob_carry.specs.View.{named_in, elements_in, fields_in, elements_of, fields_of}
-use Rattle.ob_meaning.specs.Value as Named
+use Rattle.ob_meaning.specs.ByNameValue as Named
 
 elements_row : (n : Count) (row : Row_of-NamedValue n) → elements_in row ≡ elements_of (items-the_row-NamedValue n row)
 elements_row n end_of-NamedValue = refl

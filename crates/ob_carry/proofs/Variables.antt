@@ -4,12 +4,12 @@ use Rattle.std.proofs.Math.ListN.{get_or-map}
 use Rattle.std.proofs.lemmas.List.{drop_all, length-map}
 use Rattle.std.proofs.Props.{props}
 use Rattle.std.specs.Prelude.{bytes_eq, if◌then◌else◌}
-use Rattle.ob_agreement.proofs.SameValues.{if_true, if_false}
-use Rattle.ob_agreement.specs.Resolved.{AreDistinct, NoneCalled}
+use Rattle.ob_meaning.proofs.SameValues.{if_true, if_false}
+use Rattle.ob_meaning.specs.Resolved.{AreDistinct, NoneCalled}
 use Rattle.ob_checked.specs.Types.{Entry}
 use Rattle.ob_checked.specs.View.{variable_of}
 use Rattle.ob_checked.specs.declared.program.Variable as Checked
-use Rattle.ob_meaning.specs.Value as Named
+use Rattle.ob_meaning.specs.ByNameValue as Named
 use Rattle.ob_typing.specs.Program.{Name, Parameter, Variable}
 use Rattle.ob_carry.specs.Carried.{IsVariableFor, position_from, variable_named}
 use Rattle.ob_carry.specs.Values.{IsValueOf}

@@ -1,9 +1,9 @@
 -- The state that is carried over: each variable has the value that a list gives to its name, or else 0 or FALSE throughout.
 use Rattle.std.specs.Prelude.{◌≡◌, ℕ, suc, List, [], ◌∷◌, map, take, slice_get, bytes_eq, false, if◌then◌else◌, All, Option, Some, None}
 use Rattle.ob_typing.specs.Program.{Name, DataType, Variable, Program}
-use Rattle.ob_meaning.specs.Value.{Value, initial}
-use Rattle.ob_meaning.specs.Store.{Held, Holds, Refers}
-use Rattle.ob_meaning.specs.Object.{State}
+use Rattle.ob_meaning.specs.ByNameValue.{Value, initial}
+use Rattle.ob_meaning.specs.ByNameStore.{Held, Holds, Refers}
+use Rattle.ob_meaning.specs.ByNameObject.{State}
 use Rattle.ob_carry.specs.declared.carrying.CarryFault.{CarryFault}
 use Rattle.ob_carry.specs.declared.carrying.CarryFault.TheVariants as Faults
 use Rattle.ob_carry.specs.Values.{IsValueOf}

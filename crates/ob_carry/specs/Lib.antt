@@ -1,4 +1,9 @@
-pub mod View
-pub mod Values
 pub mod Carried
-pub mod Laws
+pub mod CarryLaws
+pub mod NamedValues
+pub mod Names
+pub mod ReadOnly
+pub mod ReadOnlyExports
+pub mod ReadOnlyLaws
+pub mod Values
+pub mod View

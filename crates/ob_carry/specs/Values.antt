@@ -5,9 +5,9 @@ use Rattle.ob_interface.specs.declared.scalar.Scalar.TheVariants.{Int, Bool}
 use Rattle.ob_interface.specs.declared.scalar.ScalarType.{ScalarType}
 use Rattle.ob_interface.specs.declared.scalar.ScalarType.TheVariants.{Integer, Boolean}
 use Rattle.ob_typing.specs.Program.{DataType, Simple, Array, Record, Fields, no_field, field}
-use Rattle.ob_meaning.specs.Value.{Value, Single, Elements, Named, Values, no_value, value, NamedValues, no_named, named}
-use Rattle.ob_positions.specs.Value as Positions
-use Rattle.ob_agreement.specs.Same.{SameValue, SameElements, SameFields}
+use Rattle.ob_meaning.specs.ByNameValue.{Value, Single, Elements, Named, Values, no_value, value, NamedValues, no_named, named}
+use Rattle.ob_meaning.specs.ByPositionValue as Positions
+use Rattle.ob_meaning.specs.Same.{SameValue, SameElements, SameFields}
 
 -- from -2147483648 to 2147483647
 pub record IsInteger (z : ℤ) : Type 0 where

@@ -4,7 +4,7 @@ use Rattle.ob_carry.specs.declared.named.NamedValue.{NamedValue, Row_of-NamedVal
 use Rattle.ob_carry.specs.declared.named.NamedValue.TheVariants.{Single, Elements', Fields'}
 use Rattle.ob_carry.specs.declared.named.NamedField.{NamedField}
 use Rattle.ob_carry.specs.Carried.{Entry}
-use Rattle.ob_meaning.specs.Value as Named
+use Rattle.ob_meaning.specs.ByNameValue as Named
 
 abbrev mutual
   pub named_in : NamedValue → Named.Value

@@ -1,8 +1,8 @@
 //! The state that is carried over to a module.
 
 ghost use Rattle.std.specs.Prelude.{◌≡◌, IfErr, IfOk, OnOk, map};
-ghost use Rattle.ob_agreement.specs.Resolved.{AreDistinct, module_scope};
-ghost use Rattle.ob_agreement.specs.Same.{SameState};
+ghost use Rattle.ob_meaning.specs.Resolved.{AreDistinct, module_scope};
+ghost use Rattle.ob_meaning.specs.Same.{SameState};
 ghost use Rattle.ob_checked.specs.CheckedModule.{program_in};
 ghost use Rattle.ob_checked.specs.View.{program_of, table_of, variable_of};
 ghost use Rattle.ob_store.specs.View.{state_of, variables_in};
@@ -11,12 +11,12 @@ ghost use Rattle.ob_carry.specs.View.{entries_of};
 
 use crate::fitting::fitted;
 use crate::named::NamedField;
-use ob_agreement::laws::well_typed_is_resolved;
 use ob_checked::checked::Checked;
 use ob_checked::program::{Program, Variable};
 use ob_checked::types::Types;
-use ob_evaluate::begun::state_begun;
 use ob_interface::NoMemory;
+use ob_mean::begun::state_begun;
+use ob_meaning::agreement_laws::well_typed_is_resolved;
 use ob_store::state::State;
 use ob_store::store::overwrite;
 use std::alloc::{AllocError, Global};

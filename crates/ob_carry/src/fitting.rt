@@ -4,8 +4,8 @@ ghost use Rattle.std.specs.Prelude.{◌≡◌, ◌↔◌, IfOk, IsTrue, option_m
 ghost use Rattle.ob_checked.specs.Types.{type_in, types_of, fields_by};
 ghost use Rattle.ob_checked.specs.View.{table_of};
 ghost use Rattle.ob_store.specs.View.{value_in, values_in};
-ghost use Rattle.ob_meaning.specs.Value as Meanings;
-ghost use Rattle.ob_positions.specs.Value as Positions;
+ghost use Rattle.ob_meaning.specs.ByNameValue as Meanings;
+ghost use Rattle.ob_meaning.specs.ByPositionValue as Positions;
 ghost use Rattle.ob_carry.specs.Values.{IsScalarOf, IsFitted, AreFittedElements, AreFittedFields};
 ghost use Rattle.ob_carry.specs.View.{named_in, elements_of, fields_of};
 

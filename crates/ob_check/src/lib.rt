@@ -1,8 +1,18 @@
-//! The door of the checker: a module is checked by the rules of the language, and what is checked is kept in its type.
+//! The check of a whole module: from its text to the checked program, or to the first rule that it breaks.
+//!
+//! One may rely on the clauses of `check` and `checked_text`. What breaks a rule, and in which order rules are looked at, stands in ob_typing.
 #![tactic(auto)]
 
-pub use ob_check_text::TextFault;
-pub use ob_check_text::checked_text::checked_text;
+pub mod checked_text;
+pub mod exports;
+pub mod headings;
+pub mod modules;
+pub mod parts;
+pub mod procedures;
+
+pub use crate::TextFault;
+pub use crate::checked_text::checked_text;
+pub use crate::modules::check;
+pub use checked_text::TextFault;
 pub use ob_checked::checked::Checked;
 pub use ob_scopes::fault::CheckFault;
-pub use ob_whole_check::modules::check;

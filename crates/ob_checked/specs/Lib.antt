@@ -1,5 +1,6 @@
-pub mod Types
-pub mod Fields
-pub mod View
-pub mod Exports
 pub mod CheckedModule
+pub mod Exports
+pub mod Fields
+pub mod Traps
+pub mod Types
+pub mod View

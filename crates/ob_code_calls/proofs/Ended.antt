@@ -5,16 +5,16 @@ use Rattle.std.proofs.Math.Nat.{ℕ_set}
 use Rattle.std.specs.Prelude.{ℤ, ◌⊎◌}
 use Rattle.ob_interface.specs.Call.{ObjectCall, Reply, Answers, Trapped as TrapReply}
 use Rattle.ob_typing.specs.Program.{Program}
-use Rattle.ob_positions.specs.Object.{Effect, effect}
-use Rattle.ob_positions.specs.Store.{Activation}
+use Rattle.ob_meaning.specs.ByPositionObject.{Effect, effect}
+use Rattle.ob_meaning.specs.ByPositionStore.{Activation}
 use Rattle.ob_code_machine.specs.Body.{Run}
 use Rattle.ob_code_scheme.specs.Layout.{encoded, IsEncoding}
-use Rattle.ob_code_law.specs.CodeMeaning.{EngineParts, code_meaning}
-use Rattle.ob_code_law.specs.Compiled.{parts_of, Fits, IsFitting, HasReserve, IsLawfulBlock, IsEffect, body_limit}
-use Rattle.ob_code_law.specs.Parts.{HasProgram, IsCompiledTo, IsLawfulFor}
-use Rattle.ob_code_law.proofs.CodeLaw.{called_effect, effect_called, bodies_end}
-use Rattle.ob_code_law.proofs.OneEnd.{one_end}
-use Rattle.ob_code_law.proofs.PartsLaw.{lawful_of, parts_lawful}
+use Rattle.ob_code_correct.specs.CodeMeaning.{EngineParts, code_meaning}
+use Rattle.ob_code_correct.specs.Compiled.{parts_of, Fits, IsFitting, HasReserve, IsLawfulBlock, IsEffect, body_limit}
+use Rattle.ob_code_correct.specs.Parts.{HasProgram, IsCompiledTo, IsLawfulFor}
+use Rattle.ob_code_correct.proofs.CodeLaw.{called_effect, effect_called, bodies_end}
+use Rattle.ob_code_correct.proofs.OneEnd.{one_end}
+use Rattle.ob_code_correct.proofs.PartsLaw.{lawful_of, parts_lawful}
 use Rattle.ob_code_calls.specs.Calls.{IsMade, meaning_of}
 use Rattle.wf_table.specs.declared.engine_turn.EngineTurn.{EngineTurn}
 use Rattle.wf_table.specs.declared.engine_turn.EngineTurn.TheVariants.{On, Returned, Trapped, Stuck}

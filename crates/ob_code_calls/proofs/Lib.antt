@@ -1,5 +1,6 @@
-pub mod Ended
-mod Steps
 mod Arguments
-mod Words
+pub mod Ended
 mod Results
+mod Stands
+mod Steps
+mod Words

@@ -7,8 +7,8 @@ use Rattle.ob_checked.specs.View.{variable_of}
 use Rattle.ob_checked.specs.declared.program.Variable as Declared
 use Rattle.ob_interface.specs.declared.scalar.Scalar.{Scalar}
 use Rattle.ob_typing.specs.Program.{DataType, Variable}
-use Rattle.ob_positions.specs.Store.{Activation, Holds}
-use Rattle.ob_positions.specs.Value.{Value, Single}
+use Rattle.ob_meaning.specs.ByPositionStore.{Activation, Holds}
+use Rattle.ob_meaning.specs.ByPositionValue.{Value, Single}
 use Rattle.ob_code_calls.specs.Scalars.{IsReadAs, held_of}
 use Rattle.ob_code_scheme.specs.Layout.{word, encoded, decoded, value_in, IsEncoding, ◌>>=◌}
 use Rattle.ob_code_scheme.specs.Types.{IsValueOf, IsStateOf}

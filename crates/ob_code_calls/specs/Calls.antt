@@ -2,9 +2,9 @@
 use Rattle.std.specs.Prelude.{◌≡◌, ◌+◌, ℕ, ℤ, List}
 use Rattle.ob_interface.specs.Call.{ObjectCall, Reply}
 use Rattle.ob_typing.specs.Program.{Program}
-use Rattle.ob_positions.specs.Object.{effect}
-use Rattle.ob_positions.specs.Store.{Activation}
-use Rattle.ob_code_law.specs.CodeMeaning.{EngineParts, code_meaning}
+use Rattle.ob_meaning.specs.ByPositionObject.{effect}
+use Rattle.ob_meaning.specs.ByPositionStore.{Activation}
+use Rattle.ob_code_correct.specs.CodeMeaning.{EngineParts, code_meaning}
 use Rattle.ob_code_machine.specs.Body.{Run}
 use Rattle.ob_code_scheme.specs.Layout.{IsEncoding}
 use Rattle.wf_table.specs.Meaning.{Meaning}

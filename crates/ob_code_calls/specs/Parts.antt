@@ -3,7 +3,7 @@ use Rattle.std.specs.Prelude.{length}
 use Rattle.ob_code_calls.specs.Calls.{HasRoom}
 use Rattle.ob_code_calls.specs.declared.calls.CodeCalls.{CodeCalls}
 use Rattle.ob_code_calls.specs.declared.room.Room.{Room}
-use Rattle.ob_code_law.specs.CodeMeaning.{EngineParts}
+use Rattle.ob_code_correct.specs.CodeMeaning.{EngineParts}
 
 abbrev pub parts_in : CodeCalls → EngineParts
 parts_in c = c.engine.parts

@@ -3,8 +3,8 @@ use Rattle.std.specs.Prelude.{◌≡◌, ℤ, Some}
 use Rattle.ob_interface.specs.declared.scalar.Scalar.{Scalar}
 use Rattle.ob_interface.specs.declared.scalar.ScalarType.{ScalarType}
 use Rattle.ob_typing.specs.Program.{DataType, Simple}
-use Rattle.ob_positions.specs.Store.{Held, Holds}
-use Rattle.ob_positions.specs.Value.{Single}
+use Rattle.ob_meaning.specs.ByPositionStore.{Held, Holds}
+use Rattle.ob_meaning.specs.ByPositionValue.{Single}
 use Rattle.ob_code_scheme.specs.Layout.{word, scalar_in}
 use Rattle.ob_code_scheme.specs.Types.{IsValueOf}
 

@@ -6,13 +6,13 @@ use crate::fitting::do_fit;
 use crate::room::Room;
 use crate::running::{begin, reply_to, run_kept};
 use ob_checked::checked::Checked;
+use ob_code_correct::well_formed_laws::checked_is_well_formed;
 use ob_code_engine::CodeEngine;
-use ob_code_layout::Layout;
-use ob_code_layout::laws::stacks_are_counted;
 use ob_code_machine::Code;
-use ob_code_well_formed::laws::checked_is_well_formed;
 use ob_interface::NoMemory;
 use ob_interface::call::{Call, Reply};
+use ob_layout::Layout;
+use ob_layout::laws::stacks_are_counted;
 use std::alloc::Global;
 use wf_object::Engine;
 use wf_table::EngineTurn;
@@ -34,14 +34,14 @@ impl CodeCalls {
     ghost use Rattle.ob_checked.specs.CheckedModule.{program_in};
     ghost use Rattle.ob_code_calls.specs.Calls.{IsMade};
     ghost use Rattle.ob_code_calls.specs.Parts.{parts_in, IsRoomFor};
-    ghost use Rattle.ob_code_law.specs.Compiled.{IsFitting, parts_of};
-    ghost use Rattle.ob_code_law.specs.Parts.{IsCompiledTo, IsLawfulFor};
-    ghost use Rattle.ob_code_layout.specs.Layout as Layouts;
+    ghost use Rattle.ob_code_correct.specs.Compiled.{IsFitting, parts_of};
+    ghost use Rattle.ob_code_correct.specs.Parts.{IsCompiledTo, IsLawfulFor};
+    ghost use Rattle.ob_layout.specs.Layout as Layouts;
     ghost use Rattle.ob_code_scheme.specs.Layout.{IsEncoding};
     ghost use Rattle.ob_code_scheme.specs.Scheme.{code_of};
     ghost use Rattle.ob_interface.specs.View.{call_of, reply_of};
-    ghost use Rattle.ob_meaning.specs.Object.{most_turns};
-    ghost use Rattle.ob_positions.specs.Store.{Activation};
+    ghost use Rattle.ob_meaning.specs.ByNameObject.{most_turns};
+    ghost use Rattle.ob_meaning.specs.ByPositionStore.{Activation};
     ghost use Rattle.ob_typing.specs.Program.{Program};
 
     /// The code of a checked module, by its layout, each call with so many turns.

@@ -1,14 +1,16 @@
-//! Calls by compiled code, made one at a time on a block of words. No process shares the block, so a call is run to its end at once.
+//! Calls by compiled code, made one at a time on one block of words. No process shares the block, so each is run to its end at once.
 //!
-//! One may rely on the clauses of `CodeCalls`, which are in the words of `specs/Calls.antt`: what a call makes of a block, and what it
-//! answers, is what it comes to in the source.
+//! One may rely on the clauses of `CodeCalls` (`specs/Calls.antt`) and `CodedState` (`specs/Standing.antt`): what a call makes of a block, and
+//! what it answers, is what it comes to in the source. What is kept between calls may change without asking.
 #![tactic(auto)]
 
 pub mod calls;
+pub mod coded;
 mod fitting;
 pub mod room;
 mod running;
 pub mod scalars;
 
 pub use calls::CodeCalls;
+pub use coded::CodedState;
 pub use room::Room;

@@ -2,7 +2,7 @@
 
 ghost use Rattle.std.specs.Prelude.{◌≡◌, ◌+◌, ℕ, length};
 ghost use Rattle.ob_code_calls.specs.Calls.{meaning_of};
-ghost use Rattle.ob_code_law.specs.Compiled.{HasReserve, IsFitting};
+ghost use Rattle.ob_code_correct.specs.Compiled.{HasReserve, IsFitting};
 ghost use Rattle.ob_interface.specs.View.{call_of, reply_of};
 ghost use Rattle.wf_table.specs.Meaning.{kept, steps};
 ghost use Rattle.wf_table.specs.declared.engine_turn.EngineTurn.TheVariants as Turns;

@@ -6,8 +6,8 @@ use Rattle.std.proofs.lemmas.Bool.Decides.{nat_tests}
 use Rattle.ob_interface.specs.declared.scalar.Scalar.{Scalar}
 use Rattle.ob_interface.specs.Call.{Reply, Answers, Trapped as TrapReply}
 use Rattle.ob_typing.specs.Program.{Procedure, Program}
-use Rattle.ob_positions.specs.Store.{Activation}
-use Rattle.ob_positions.specs.Object.{Effect}
+use Rattle.ob_meaning.specs.ByPositionStore.{Activation}
+use Rattle.ob_meaning.specs.ByPositionObject.{Effect}
 use Rattle.ob_code_machine.specs.Machine.{Outcome, Unfinished, Returned, Trapped, Stuck}
 use Rattle.ob_code_machine.specs.Code.{CodeParts}
 use Rattle.ob_code_machine.specs.declared.argument.Argument.{Argument}
@@ -20,7 +20,7 @@ use Rattle.ob_code_scheme.specs.Temporaries.{stack_words}
 use Rattle.ob_code_scheme.specs.Layout.{encoded, variable_words}
 use Rattle.ob_code_scheme.specs.Scheme.{code_of, entry_of}
 use Rattle.ob_code_scheme.specs.Correct.{arguments_of, beginning, end_with, after, Behaves}
-use Rattle.ob_code_placing.proofs.Owed.{code_placed}
+use Rattle.ob_code_correct.proofs.PlacingOwed.{code_placed}
 use Rattle.ob_code_correct.specs.Bodies.{HasEnded, started, stepped, meant, BodyBehaves, BodiesAreCorrect}
 use Rattle.ob_code_correct.proofs.Law.{code_correct}
 

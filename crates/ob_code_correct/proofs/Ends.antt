@@ -3,10 +3,10 @@ use Rattle.std.proofs.Common.{◌≡◌, ℕ, suc, ◌+◌, ◌-◌, ◌*◌, �
 use Rattle.ob_interface.specs.declared.scalar.Scalar.{Scalar}
 use Rattle.ob_interface.specs.Call.{Reply, Answers, Trapped as TrapReply}
 use Rattle.ob_typing.specs.Program.{Procedure, Program}
-use Rattle.ob_meaning.specs.Object.{results_position, most_activations}
-use Rattle.ob_positions.specs.Store.{Activation, activation_at}
-use Rattle.ob_positions.specs.Statements.{Outcome as Ended, Done, Trap, meaning_of_all, calls}
-use Rattle.ob_positions.specs.Object.{Effect, effect_of, values_of_results}
+use Rattle.ob_meaning.specs.ByNameObject.{results_position, most_activations}
+use Rattle.ob_meaning.specs.ByPositionStore.{Activation, activation_at}
+use Rattle.ob_meaning.specs.ByPositionStatements.{Outcome as Ended, Done, Trap, meaning_of_all, calls}
+use Rattle.ob_meaning.specs.ByPositionObject.{Effect, effect_of, values_of_results}
 use Rattle.ob_code_machine.specs.declared.instr.Instr.{Instr}
 use Rattle.ob_code_machine.specs.Laws.{IsOver}
 use Rattle.ob_code_machine.specs.Machine.{Configuration, Outcome, exec}
@@ -15,7 +15,7 @@ use Rattle.ob_code_machine.proofs.Within.{stack_stays}
 use Rattle.ob_code_scheme.specs.Types.{IsStateOf}
 use Rattle.ob_code_scheme.specs.Temporaries.{stack_words}
 use Rattle.ob_code_scheme.specs.Correct.{ReplyFits, beginning, end_with, end_of, meant, Behaves}
-use Rattle.ob_code_steps.specs.Executing.{Follows, first_store, Exported}
+use Rattle.ob_code_scheme.specs.Executing.{Follows, first_store, Exported}
 use Rattle.ob_code_correct.proofs.Fitting.{values_typed, values_in_range}
 
 -- ---- what is over stays over

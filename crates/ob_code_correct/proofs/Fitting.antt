@@ -9,7 +9,7 @@ use Rattle.ob_interface.specs.Export.{type_of, value_types, var_types}
 use Rattle.ob_typing.specs.Program.{DataType, Simple, Array, Record, Name, Parameter}
 use Rattle.ob_code_scheme.specs.WellFormed.{IsSimple}
 use Rattle.ob_code_scheme.specs.Correct.{scalar_type_of, formals_of, IsInRange}
-use Rattle.ob_code_steps.specs.Executing.{IsScalarIn, AreArgumentsOf, AreValuesOf}
+use Rattle.ob_code_scheme.specs.Executing.{IsScalarIn, AreArgumentsOf, AreValuesOf}
 
 abbrev one : Name → Bool → DataType → Parameter
 one name is_var type = record { name = name; is_var = is_var; type = type }

@@ -5,11 +5,11 @@ use Rattle.ob_code_scheme.specs.Temporaries.{stack_words}
 use Rattle.ob_code_scheme.specs.Scheme.{code_of, entry_of}
 use Rattle.ob_code_scheme.specs.Correct.{Behaves, CodeIsCorrect}
 use Rattle.ob_code_scheme.proofs.Fine.{fine_procedure}
-use Rattle.ob_code_steps.specs.Executing.{ExecutionRuns}
-use Rattle.ob_code_memory.proofs.Memory.{memory_holds}
-use Rattle.ob_code_placing.proofs.Owed.{code_placed}
-use Rattle.ob_code_expressions.proofs.Actuals.{evaluation_runs}
-use Rattle.ob_code_statements.proofs.Executions.{execution_runs}
+use Rattle.ob_code_scheme.specs.Executing.{ExecutionRuns}
+use Rattle.ob_code_correct.proofs.Memory.{memory_holds}
+use Rattle.ob_code_correct.proofs.PlacingOwed.{code_placed}
+use Rattle.ob_code_correct.proofs.Actuals.{evaluation_runs}
+use Rattle.ob_code_correct.proofs.Executions.{execution_runs}
 use Rattle.ob_code_correct.proofs.Fitting.{arguments_each}
 use Rattle.ob_code_correct.proofs.Ends.{behaves}
 

@@ -3,8 +3,8 @@ use Rattle.std.specs.Prelude.{◌≡◌, ◌≢◌, ℕ, suc, ◌*◌, ◌≤◌
 use Rattle.ob_interface.specs.declared.scalar.Scalar.{Scalar}
 use Rattle.ob_interface.specs.Call.{Reply, Answers, Trapped}
 use Rattle.ob_typing.specs.Program.{Procedure, Program}
-use Rattle.ob_positions.specs.Store.{Activation}
-use Rattle.ob_positions.specs.Object.{Effect, effect_of_procedure}
+use Rattle.ob_meaning.specs.ByPositionStore.{Activation}
+use Rattle.ob_meaning.specs.ByPositionObject.{Effect, effect_of_procedure}
 use Rattle.ob_code_machine.specs.Code.{CodeParts}
 use Rattle.ob_code_machine.specs.declared.turn.BodyTurn.TheVariants as Turns
 use Rattle.ob_code_machine.specs.Body.{Run, Step, entered, steps}

@@ -7,7 +7,7 @@ use Rattle.ob_interface.specs.declared.export.Formal.{Formal}
 use Rattle.ob_interface.specs.declared.scalar.Scalar.{Scalar}
 use Rattle.ob_interface.specs.declared.scalar.ScalarType.{ScalarType}
 use Rattle.ob_interface.specs.Export.{ArgumentsFit, type_of}
-use Rattle.ob_code_law.specs.CodeMeaning.{result_count, value_count}
+use Rattle.ob_code_correct.specs.CodeMeaning.{result_count, value_count}
 
 -- one more of them, or not
 one_yes : (b : Bool) (n : ℕ) → cond b (suc n) n ≡ cond b (1 + n) n

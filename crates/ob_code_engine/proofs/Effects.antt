@@ -1,11 +1,11 @@
 -- The effect of a call over an engine is that of a program with these parts, and a body of it has one end.
 use Rattle.std.proofs.Common.{subst}
-use Rattle.ob_code_law.specs.CodeMeaning.{EngineParts, code_meaning}
-use Rattle.ob_code_law.specs.Compiled.{HasReserve, IsFitting}
-use Rattle.ob_code_law.specs.Parts.{IsLawfulFor, IsEffectOf}
-use Rattle.ob_code_law.proofs.CodeLaw.{effect_total}
-use Rattle.ob_code_law.proofs.OneEnd.{one_effect}
-use Rattle.ob_code_law.proofs.PartsLaw.{parts_lawful}
+use Rattle.ob_code_correct.specs.CodeMeaning.{EngineParts, code_meaning}
+use Rattle.ob_code_correct.specs.Compiled.{HasReserve, IsFitting}
+use Rattle.ob_code_correct.specs.Parts.{IsLawfulFor, IsEffectOf}
+use Rattle.ob_code_correct.proofs.CodeLaw.{effect_total}
+use Rattle.ob_code_correct.proofs.OneEnd.{one_effect}
+use Rattle.ob_code_correct.proofs.PartsLaw.{parts_lawful}
 use Rattle.ob_code_engine.specs.Effects.{EffectsAreTotal}
 
 pub effects_total : EffectsAreTotal

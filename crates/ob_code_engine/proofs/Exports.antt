@@ -3,9 +3,9 @@ use Rattle.std.proofs.Common.{◌≡◌, ℕ, ◌≤◌, length, Some, sym, ap, 
 use Rattle.std.proofs.Math.Logic.{∥∥₁_elim}
 use Rattle.std.proofs.Math.Bridge.{le_prop}
 use Rattle.std.specs.Prelude.{ℤ, pos, negsuc, slice_get}
-use Rattle.ob_code_law.specs.CodeMeaning.{Entrance, EngineParts, entrance_at}
-use Rattle.ob_code_law.specs.Parts.{HasProgram}
-use Rattle.ob_code_law.proofs.ExportLaw as Law
+use Rattle.ob_code_correct.specs.CodeMeaning.{Entrance, EngineParts, entrance_at}
+use Rattle.ob_code_correct.specs.Parts.{HasProgram}
+use Rattle.ob_code_correct.proofs.ExportLaw as Law
 
 pub few : (parts : EngineParts) → ∥ HasProgram parts ∥₁ → (i : ℕ) (x : Entrance) → slice_get parts.exports i ≡ Some x → length x.parameters ≤ 8
 few parts there i x h =

@@ -7,8 +7,8 @@ use Rattle.ob_checked.specs.Types.{Entry, entry_by, structure_by, types_behind, 
 use Rattle.ob_checked.specs.declared.types.Structure.{Structure}
 use Rattle.ob_checked.specs.declared.types.Structure.TheVariants.{Array, Record}
 use Rattle.ob_code_scheme.specs.Correct.{scalar_type_of, formals_of}
-use Rattle.ob_code_law.specs.CodeMeaning.{Entrance}
-use Rattle.ob_code_law.specs.Compiled.{entrances_from}
+use Rattle.ob_code_correct.specs.CodeMeaning.{Entrance}
+use Rattle.ob_code_correct.specs.Compiled.{entrances_from}
 
 -- ---- no number of a table stands for a scalar's type
 

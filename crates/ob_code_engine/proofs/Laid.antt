@@ -4,7 +4,7 @@ use Rattle.std.specs.Prelude.{ℤ, pos}
 use Rattle.std.proofs.lemmas.List.{take_more, map-append}
 use Rattle.ob_interface.specs.declared.scalar.Scalar.{Scalar}
 use Rattle.ob_code_scheme.specs.Layout.{word}
-use Rattle.ob_code_law.specs.CodeMeaning.{padded}
+use Rattle.ob_code_correct.specs.CodeMeaning.{padded}
 
 pub padded_none : (n : ℕ) → padded n [] ≡ replicate n (pos 0)
 padded_none zero = refl

@@ -9,10 +9,10 @@ use Rattle.ob_code_scheme.specs.Scheme.{code_of}
 use Rattle.ob_code_scheme.specs.Temporaries.{stack_words}
 use Rattle.ob_code_scheme.specs.WellFormed.{IsWellFormed}
 use Rattle.ob_code_scheme.proofs.Small.{few_stack_words}
-use Rattle.ob_code_layout.specs.Counted.{counted}
-use Rattle.ob_code_law.specs.CodeMeaning.{Entrance, EngineParts}
-use Rattle.ob_code_law.specs.Compiled.{entrances_from, parts_of}
-use Rattle.ob_code_law.specs.Parts.{IsCompiledTo, HasProgram}
+use Rattle.ob_layout.specs.Counted.{counted}
+use Rattle.ob_code_correct.specs.CodeMeaning.{Entrance, EngineParts}
+use Rattle.ob_code_correct.specs.Compiled.{entrances_from, parts_of}
+use Rattle.ob_code_correct.specs.Parts.{IsCompiledTo, HasProgram}
 use Rattle.ob_code_engine.specs.CodeEngine.{CompiledParts, HasSameNumbers, compiled_same}
 
 abbrev pub made : ℕ → List Entrance → CodeParts → ℕ → ℕ → EngineParts

@@ -4,8 +4,8 @@ use Rattle.std.specs.Coded.{Coded, coded×, coded_list, coded_ℕ}
 use base.Stored.{coded_via}
 use mathlib.Core.HLevel.{is_prop→PathP}
 use Rattle.ob_code_engine.specs.contracts.entrance.Entrance as Entrances
-use Rattle.ob_code_law.specs.CodeMeaning.{EngineParts, Entrance}
-use Rattle.ob_code_law.specs.Parts.{HasProgram}
+use Rattle.ob_code_correct.specs.CodeMeaning.{EngineParts, Entrance}
+use Rattle.ob_code_correct.specs.Parts.{HasProgram}
 use Rattle.ob_code_machine.specs.Code.{CodeParts}
 use Rattle.ob_code_machine.specs.contracts.code.Code as Codes
 

@@ -1,9 +1,9 @@
 -- The effect of calls over an engine is total: one block and one reply, never nothing, and never two.
 use Rattle.std.specs.Prelude.{◌≡◌, ℤ, List}
 use Rattle.ob_interface.specs.Call.{ObjectCall, Reply}
-use Rattle.ob_code_law.specs.CodeMeaning.{EngineParts}
-use Rattle.ob_code_law.specs.Compiled.{IsFitting}
-use Rattle.ob_code_law.specs.Parts.{IsLawfulFor, IsEffectOf}
+use Rattle.ob_code_correct.specs.CodeMeaning.{EngineParts}
+use Rattle.ob_code_correct.specs.Compiled.{IsFitting}
+use Rattle.ob_code_correct.specs.Parts.{IsLawfulFor, IsEffectOf}
 
 -- the call leads from this block to one block, with one reply
 pub record HasOneEffect (parts : EngineParts) (call : ObjectCall) (block : List ℤ) : Type 0 where

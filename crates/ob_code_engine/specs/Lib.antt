@@ -1,4 +1,5 @@
+pub mod Bound
 pub mod CodeEngine
-pub mod Total
 pub mod Effects
 pub mod SameCode
+pub mod Total

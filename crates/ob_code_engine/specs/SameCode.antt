@@ -2,10 +2,10 @@
 use Rattle.std.specs.Prelude.{◌≡◌, refl}
 use Rattle.std.proofs.Common.{subst}
 use Rattle.ob_code_engine.specs.CodeEngine.{CompiledParts}
-use Rattle.ob_code_law.specs.CodeMeaning.{EngineParts, code_meaning}
-use Rattle.ob_code_law.specs.Compiled.{HasReserve, IsFitting}
-use Rattle.ob_code_law.specs.Parts.{IsEffectOf, IsLawfulFor}
-use Rattle.wf_coded.specs.Coded.{DoesTheSame}
+use Rattle.ob_code_correct.specs.CodeMeaning.{EngineParts, code_meaning}
+use Rattle.ob_code_correct.specs.Compiled.{HasReserve, IsFitting}
+use Rattle.ob_code_correct.specs.Parts.{IsEffectOf, IsLawfulFor}
+use Rattle.wf_theorems.specs.Coded.{DoesTheSame}
 
 -- an engine of some parts does what one of these parts does
 abbrev SameAs : EngineParts → EngineParts → Type 0

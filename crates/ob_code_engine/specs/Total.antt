@@ -1,14 +1,14 @@
 -- What a call takes of its process in all, over an engine with a budget of turns.
 use Rattle.std.specs.Prelude.{ℕ, suc, ◌*◌, ℤ, List, length}
 use Rattle.ob_code_machine.specs.Body.{Run}
-use Rattle.ob_code_law.specs.CodeMeaning.{EngineParts, code_meaning}
-use Rattle.ob_code_law.specs.Compiled.{HasReserve, IsFitting}
-use Rattle.ob_code_law.specs.Parts.{IsLawfulFor}
+use Rattle.ob_code_correct.specs.CodeMeaning.{EngineParts, code_meaning}
+use Rattle.ob_code_correct.specs.Compiled.{HasReserve, IsFitting}
+use Rattle.ob_code_correct.specs.Parts.{IsLawfulFor}
 use Rattle.wf_table.specs.Object.{State}
 use Rattle.wf_table.specs.Runs.{Act, IsRun}
 use Rattle.wf_table.specs.Start.{sizes_of}
-use Rattle.wf_bound.specs.Counted.{counted_from, counted_run}
-use Rattle.wf_bound.specs.Limit.{AllWithinLimit}
+use Rattle.wf_table.specs.Counted.{counted_from, counted_run}
+use Rattle.wf_table.specs.Limit.{AllWithinLimit}
 
 -- the most instructions that a body takes: each turn, and the call itself, pays for as many as the code has
 abbrev pub body_limit : EngineParts → ℕ

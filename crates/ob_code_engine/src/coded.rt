@@ -3,11 +3,11 @@
 use crate::engine::CodeEngine;
 use ob_interface::NoMemory;
 use std::alloc::Global;
-use wf_coded::CodedEngine;
+use wf_theorems::CodedEngine;
 
 impl CodedEngine for CodeEngine {
     ghost use Rattle.ob_code_engine.specs.SameCode.{does_the_same};
-    ghost use Rattle.ob_code_law.specs.CodeMeaning.{EngineParts};
+    ghost use Rattle.ob_code_correct.specs.CodeMeaning.{EngineParts};
 
     ghost Code = { EngineParts };
 

@@ -2,20 +2,20 @@
 
 ghost use Rattle.std.specs.Prelude.{◌≡◌, ◌≤◌, ◌↔◌, IsTrue, length};
 ghost use Rattle.ob_code_engine.specs.CodeEngine.{engine_parts};
-ghost use Rattle.ob_code_law.specs.CodeMeaning.{most, result_count, value_count};
-ghost use Rattle.ob_code_law.specs.Parts.{HasProgram};
-ghost use Rattle.ob_meaning.specs.Object.{most_turns};
+ghost use Rattle.ob_code_correct.specs.CodeMeaning.{most, result_count, value_count};
+ghost use Rattle.ob_code_correct.specs.Parts.{HasProgram};
+ghost use Rattle.ob_meaning.specs.ByNameObject.{most_turns};
 
 use crate::entrance::{Entrance, are_same, copied, entrances, most_results, most_values};
 use crate::turns::turn_of;
 use crate::words::{lay, reply_in, split, trap_in};
 use ob_checked::checked::Checked;
-use ob_code_layout::Layout;
+use ob_code_correct::well_formed_laws::checked_is_well_formed;
 use ob_code_machine::{Body, Code};
-use ob_code_well_formed::laws::checked_is_well_formed;
 use ob_interface::NoMemory;
 use ob_interface::call::{Call, Reply};
 use ob_interface::export::Formal;
+use ob_layout::Layout;
 use std::alloc::Global;
 use std::marker::Model;
 use wf_object::{Engine, EngineTurn};
@@ -51,10 +51,10 @@ impl Model for CodeEngine {
 impl CodeEngine {
     ghost use Rattle.std.specs.Prelude.{IfOk, option_copied, slice_get};
     ghost use Rattle.ob_checked.specs.CheckedModule.{program_in};
-    ghost use Rattle.ob_code_law.specs.CodeMeaning as Words;
-    ghost use Rattle.ob_code_law.specs.Compiled as Compiled;
-    ghost use Rattle.ob_code_law.specs.Parts.{IsCompiledTo};
-    ghost use Rattle.ob_code_layout.specs.Layout as Layouts;
+    ghost use Rattle.ob_code_correct.specs.CodeMeaning as Words;
+    ghost use Rattle.ob_code_correct.specs.Compiled as Compiled;
+    ghost use Rattle.ob_code_correct.specs.Parts.{IsCompiledTo};
+    ghost use Rattle.ob_layout.specs.Layout as Layouts;
     ghost use Rattle.ob_code_scheme.specs.Scheme.{code_of};
     ghost use Rattle.ob_interface.specs.Call.{Answers};
     ghost use Rattle.ob_interface.specs.View.{reply_of};
@@ -188,10 +188,10 @@ fn is_same_code(code: &Code, other: &Code) -> bool
 }
 
 impl Engine for CodeEngine {
-    ghost use Rattle.ob_code_law.specs.CodeMeaning.{code_meaning};
-    ghost use Rattle.ob_code_law.specs.Compiled.{HasReserve, IsFitting};
-    ghost use Rattle.ob_code_law.specs.Parts.{IsEffectOf, IsLawfulFor};
-    ghost use Rattle.ob_code_law.proofs.PartsLaw.{parts_lawful};
+    ghost use Rattle.ob_code_correct.specs.CodeMeaning.{code_meaning};
+    ghost use Rattle.ob_code_correct.specs.Compiled.{HasReserve, IsFitting};
+    ghost use Rattle.ob_code_correct.specs.Parts.{IsEffectOf, IsLawfulFor};
+    ghost use Rattle.ob_code_correct.proofs.PartsLaw.{parts_lawful};
 
     type Run = Body;
 

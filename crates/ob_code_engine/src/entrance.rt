@@ -3,8 +3,8 @@
 ghost use Rattle.std.specs.Prelude.{◌≡◌, ◌↔◌, List, map, IfOk, IsTrue};
 ghost use Rattle.ob_checked.specs.Types.{Entry, type_in};
 ghost use Rattle.ob_checked.specs.View.{parameter_of, program_of};
-ghost use Rattle.ob_code_law.specs.CodeMeaning as Words;
-ghost use Rattle.ob_code_law.specs.Compiled.{entrances_from};
+ghost use Rattle.ob_code_correct.specs.CodeMeaning as Words;
+ghost use Rattle.ob_code_correct.specs.Compiled.{entrances_from};
 ghost use Rattle.ob_code_scheme.specs.Correct as Correct;
 
 use ob_checked::program::{Parameter, Program};
@@ -23,7 +23,7 @@ pub struct Entrance {
 }
 
 impl Model for Entrance {
-    ghost use Rattle.ob_code_law.specs.CodeMeaning as Words;
+    ghost use Rattle.ob_code_correct.specs.CodeMeaning as Words;
 
     ghost Value = { Words.Entrance };
 

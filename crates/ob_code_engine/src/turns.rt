@@ -1,7 +1,7 @@
 //! What a step answers.
 
 ghost use Rattle.std.specs.Prelude.{◌≡◌};
-ghost use Rattle.ob_code_law.specs.CodeMeaning as Words;
+ghost use Rattle.ob_code_correct.specs.CodeMeaning as Words;
 
 use ob_code_machine::BodyTurn;
 use wf_object::EngineTurn;

@@ -4,7 +4,7 @@ ghost use Rattle.std.specs.Prelude.{◌≡◌, ◌<◌, ◌≤◌, ◌+◌, ◌^
 ghost use Rattle.ob_interface.specs.Call.{Answers};
 ghost use Rattle.ob_interface.specs.View.{call_of, reply_of};
 ghost use Rattle.ob_code_scheme.specs.Layout.{word};
-ghost use Rattle.ob_code_law.specs.CodeMeaning as Words;
+ghost use Rattle.ob_code_correct.specs.CodeMeaning as Words;
 
 use ob_code_machine::Argument;
 use ob_interface::call::{Call, Reply};

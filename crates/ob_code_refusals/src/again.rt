@@ -1,14 +1,14 @@
 //! Calls of a machine, made again where memory was refused.
 
 ghost use Rattle.std.specs.Prelude.{◌≡◌, ◌<◌, All};
-ghost use Rattle.ob_code_law.specs.Compiled.{IsFitting};
-ghost use Rattle.ob_schedule.specs.Schedule.{process_of};
+ghost use Rattle.ob_code_correct.specs.Compiled.{IsFitting};
+ghost use Rattle.ob_text_words.specs.Schedule.{process_of};
 ghost use Rattle.ob_text_words.specs.ScriptCalls.{object_call, script_call_of};
 ghost use Rattle.wf_play.specs.Played.{IsSameObject};
 
 use crate::trouble::Trouble;
 use ob_code_engine::CodeEngine;
-use ob_schedule::Item;
+use ob_text_words::Item;
 use ob_text_words::script_call::ScriptCall;
 use std::alloc::Global;
 use wf_object::{Machine, StepOut};

@@ -1,7 +1,7 @@
 //! Runs by turns at a desk.
 
 ghost use Rattle.std.specs.Prelude.{◌-◌, ◌<◌, ◌≤◌, ◌^◌, All};
-ghost use Rattle.ob_code_law.specs.Compiled.{IsFitting};
+ghost use Rattle.ob_code_correct.specs.Compiled.{IsFitting};
 ghost use Rattle.ob_object_compile.specs.Sound.{IsSoundObject};
 ghost use Rattle.ob_object_compile.specs.View.{object_in};
 ghost use Rattle.ob_text_words.specs.ScriptCalls.{object_call, script_call_of};
@@ -9,8 +9,7 @@ ghost use Rattle.ob_text_words.specs.ScriptCalls.{object_call, script_call_of};
 use crate::records::add_record;
 use crate::trouble::Trouble;
 use ob_code_engine::CodeEngine;
-use ob_desk_floor::{Seat, TakeTurn};
-use ob_desk_lock::Desk;
+use ob_desk_floor::{Desk, Seat, TakeTurn};
 use ob_desk_serve::opened_desk;
 use ob_object_compile::Object;
 use ob_text_words::script_call::ScriptCall;

@@ -1,7 +1,7 @@
 //! Runs by turns on a floor.
 
 ghost use Rattle.std.specs.Prelude.{◌≡◌, ◌-◌, ◌<◌, ◌≤◌, ◌^◌, All, IfOk};
-ghost use Rattle.ob_code_law.specs.Compiled.{IsFitting};
+ghost use Rattle.ob_code_correct.specs.Compiled.{IsFitting};
 ghost use Rattle.ob_code_scheme.specs.Layout.{encoded};
 ghost use Rattle.ob_object_compile.specs.Sound.{IsSoundObject};
 ghost use Rattle.ob_object_compile.specs.View.{object_in};
@@ -11,9 +11,9 @@ ghost use Rattle.wf_play.specs.Played.{IsSameObject};
 use crate::records::add_record;
 use crate::trouble::Trouble;
 use ob_code_engine::CodeEngine;
-use ob_code_layout::encode;
 use ob_desk_floor::{Floor, Opening, Seat};
 use ob_desk_serve::opening::submissions;
+use ob_layout::encode;
 use ob_object_compile::Object;
 use ob_text_words::script_call::ScriptCall;
 use std::alloc::{AllocError, Global};

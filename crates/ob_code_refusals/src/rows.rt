@@ -1,16 +1,16 @@
 //! The runs that are made: of two processes each.
 
 ghost use Rattle.std.specs.Prelude.{◌<◌, ◌≤◌, All, IfOk};
-ghost use Rattle.ob_code_law.specs.Compiled.{IsFitting};
+ghost use Rattle.ob_code_correct.specs.Compiled.{IsFitting};
 ghost use Rattle.ob_object_compile.specs.Sound.{IsSoundObject};
 ghost use Rattle.ob_object_compile.specs.View.{object_in};
-ghost use Rattle.ob_schedule.specs.Schedule.{process_of};
+ghost use Rattle.ob_text_words.specs.Schedule.{process_of};
 ghost use Rattle.ob_text_words.specs.ScriptCalls.{object_call, script_call_of};
 
 use ob_object_compile::{Asked, Beginning, Object};
 use ob_object_perform::performing::read_texts;
 use ob_object_perform::{PerformFault, Texts};
-use ob_schedule::Item;
+use ob_text_words::Item;
 use ob_text_words::script_call::ScriptCall;
 use std::alloc::Global;
 

@@ -1,20 +1,20 @@
 //! Runs by the steps of a machine.
 
 ghost use Rattle.std.specs.Prelude.{◌≡◌, ◌<◌, All, IfOk};
-ghost use Rattle.ob_code_law.specs.Compiled.{IsFitting};
+ghost use Rattle.ob_code_correct.specs.Compiled.{IsFitting};
 ghost use Rattle.ob_code_scheme.specs.Layout.{encoded};
 ghost use Rattle.ob_object_compile.specs.Sound.{IsSoundObject};
 ghost use Rattle.ob_object_compile.specs.View.{object_in};
-ghost use Rattle.ob_schedule.specs.Schedule.{process_of};
+ghost use Rattle.ob_text_words.specs.Schedule.{process_of};
 ghost use Rattle.ob_text_words.specs.ScriptCalls.{object_call, script_call_of};
 
 use crate::again::{play, submit_all};
 use crate::records::add_record;
 use crate::trouble::Trouble;
 use ob_code_engine::CodeEngine;
-use ob_code_layout::encode;
+use ob_layout::encode;
 use ob_object_compile::Object;
-use ob_schedule::Item;
+use ob_text_words::Item;
 use ob_text_words::script_call::ScriptCall;
 use std::alloc::Global;
 use wf_object::Machine;

@@ -1,6 +1,6 @@
 //! Why there is nothing to print.
 
-use ob_desk_lock::CloseFault;
+use ob_desk_floor::CloseFault;
 use ob_interface::NoMemory;
 use ob_object_perform::PerformFault;
 use std::alloc::AllocError;

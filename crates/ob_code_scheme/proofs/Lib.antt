@@ -1,5 +1,5 @@
-pub mod Samples
 pub mod Fine
-pub mod Small
-pub mod Rows
 pub mod Placing
+pub mod Rows
+pub mod Samples
+pub mod Small

@@ -5,8 +5,8 @@ use Rattle.std.proofs.lemmas.Int.{ints}
 use Rattle.std.proofs.lemmas.List.Elements.{All-nil, All-cons}
 use Rattle.ob_interface.specs.declared.scalar.Scalar.TheVariants.{Int}
 use Rattle.ob_interface.specs.declared.scalar.ScalarType.TheVariants.{Integer, Boolean}
-use Rattle.ob_positions.specs.Value.{Single, Parts, no_part, part}
-use Rattle.ob_positions.specs.Store.{Place, Store, Holds, Refers}
+use Rattle.ob_meaning.specs.ByPositionValue.{Single, Parts, no_part, part}
+use Rattle.ob_meaning.specs.ByPositionStore.{Place, Store, Holds, Refers}
 use Rattle.ob_code_scheme.specs.Types.{IsInteger, Holding, Referring, Fits}
 use Rattle.ob_code_scheme.specs.WellFormed.{IsSimple, IsFineSpace, IsSmall, IsFineProcedure, IsWellFormed}
 use Rattle.ob_code_machine.specs.Machine.{Unfinished}

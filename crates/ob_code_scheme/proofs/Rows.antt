@@ -2,8 +2,8 @@
 use Rattle.std.proofs.Common.{◌≡◌, refl, ℤ, pos, negsuc, true, false, [], ◌∷◌, Some, None}
 use Rattle.std.specs.Prelude as Prelude
 use Rattle.ob_interface.specs.declared.scalar.Scalar.TheVariants.{Int, Bool}
-use Rattle.ob_positions.specs.Value.{Value, Single, Parts, no_part, part}
-use Rattle.ob_positions.specs.Store.{Holds, Activation}
+use Rattle.ob_meaning.specs.ByPositionValue.{Value, Single, Parts, no_part, part}
+use Rattle.ob_meaning.specs.ByPositionStore.{Holds, Activation}
 use Rattle.ob_code_scheme.specs.Types.{address, variables_scope}
 use Rattle.ob_code_scheme.specs.Temporaries.{stack_words}
 use Rattle.ob_code_scheme.specs.Layout.{variable_words, word_of, encoded, decoded, layout_of}

@@ -11,9 +11,9 @@ use Rattle.ob_typing.specs.declared.operator.BinaryOperator.TheVariants.{Plus, M
 use Rattle.ob_typing.specs.declared.operator.Relation.TheVariants.{Equal, NotEqual, Less, Greater, GreaterOrEqual}
 use Rattle.ob_typing.specs.Program
 use Rattle.ob_typing.specs.Program.{Name, DataType, Simple, Array, Record, no_field, field, OfModule, Own, Expression, Literal, ValueOf, Negated, Complement, Computed, Compared, Operations, no_operation, operation, Designator, Designated, Selectors, no_selector, field_of, element_of, Actual, ByValue, ByPlace, Statement, Assign, Call, If, While, Repeat, Statements, no_statement, statement, no_branch, otherwise, branch, Parameter, Variable, Procedure}
-use Rattle.ob_positions.specs.Statements.{begun}
-use Rattle.ob_positions.specs.Store.{Activation}
-use Rattle.ob_positions.specs.Object.{Effect, results_begun, outside_handed, effect_of_procedure}
+use Rattle.ob_meaning.specs.ByPositionStatements.{begun}
+use Rattle.ob_meaning.specs.ByPositionStore.{Activation}
+use Rattle.ob_meaning.specs.ByPositionObject.{Effect, results_begun, outside_handed, effect_of_procedure}
 use Rattle.ob_code_scheme.specs.Temporaries.{stack_words}
 use Rattle.ob_code_scheme.specs.Types.{variables_scope, results_scope, parameters_scope}
 use Rattle.ob_code_machine.specs.Machine.{Configuration, Outcome, Unfinished, Stuck, exec}

@@ -9,9 +9,9 @@ use Rattle.ob_interface.specs.declared.export.Formal.{Formal}
 use Rattle.ob_interface.specs.Call.{Reply, Answers, Trapped as TrapReply}
 use Rattle.ob_interface.specs.Export as Exports
 use Rattle.ob_typing.specs.Program.{DataType, Simple, Variable, Parameter, Procedure, Program}
-use Rattle.ob_meaning.specs.Object.{first_argument, other_arguments}
-use Rattle.ob_positions.specs.Store.{Activation}
-use Rattle.ob_positions.specs.Object.{Effect, effect_of_procedure}
+use Rattle.ob_meaning.specs.ByNameObject.{first_argument, other_arguments}
+use Rattle.ob_meaning.specs.ByPositionStore.{Activation}
+use Rattle.ob_meaning.specs.ByPositionObject.{Effect, effect_of_procedure}
 use Rattle.ob_code_machine.specs.declared.instr.Instr.{Instr}
 use Rattle.ob_code_machine.specs.declared.argument.Argument.{Argument}
 use Rattle.ob_code_machine.specs.declared.argument.Argument.TheVariants as Arguments

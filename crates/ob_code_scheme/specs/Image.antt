@@ -1,8 +1,8 @@
 -- A store written out word by word: what the machine's block and stack hold while a construct runs; and what it means that the
 -- machine comes from there to somewhere.
 use Rattle.std.specs.Prelude.{◌≡◌, ℕ, ◌+◌, ◌*◌, ◌≤◌, ℤ, pos, List, [], ◌∷◌, ◌++◌, length, drop}
-use Rattle.ob_positions.specs.Store.{Held, Holds, Refers, Activation, Store, activation_at}
-use Rattle.ob_positions.specs.Statements.{Outcome, Done, Trap}
+use Rattle.ob_meaning.specs.ByPositionStore.{Held, Holds, Refers, Activation, Store, activation_at}
+use Rattle.ob_meaning.specs.ByPositionStatements.{Outcome, Done, Trap}
 use Rattle.ob_code_scheme.specs.Types.{Scope, total, address, Fits}
 use Rattle.ob_code_scheme.specs.Layout.{flat}
 use Rattle.ob_code_machine.specs.declared.instr.Instr.{Instr}

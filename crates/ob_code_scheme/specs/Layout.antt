@@ -6,8 +6,8 @@ use Rattle.ob_interface.specs.declared.scalar.Scalar.TheVariants.{Int, Bool}
 use Rattle.ob_interface.specs.declared.scalar.ScalarType.{ScalarType}
 use Rattle.ob_interface.specs.declared.scalar.ScalarType.TheVariants.{Integer, Boolean}
 use Rattle.ob_typing.specs.Program.{DataType, Simple, Array, Record, Fields, no_field, field, Variable, Program}
-use Rattle.ob_positions.specs.Value.{Value, Single, Parts, Values, no_part, part}
-use Rattle.ob_positions.specs.Store.{Activation, Holds, value_held}
+use Rattle.ob_meaning.specs.ByPositionValue.{Value, Single, Parts, Values, no_part, part}
+use Rattle.ob_meaning.specs.ByPositionStore.{Activation, Holds, value_held}
 use Rattle.ob_code_scheme.specs.Types.{extent, word_in, variables_scope, IsStateOf}
 use Rattle.ob_code_scheme.specs.Temporaries.{frame_words, stack_words}
 

@@ -5,8 +5,8 @@ use Rattle.ob_interface.specs.declared.scalar.Scalar.TheVariants.{Int, Bool}
 use Rattle.ob_interface.specs.declared.scalar.ScalarType.{ScalarType}
 use Rattle.ob_interface.specs.declared.scalar.ScalarType.TheVariants.{Integer, Boolean}
 use Rattle.ob_typing.specs.Program.{DataType, Simple, Array, Record, Fields, no_field, field, Owner, OfModule, Own, Parameter, Variable, Procedure}
-use Rattle.ob_positions.specs.Value.{Value, Single, Parts, Values, no_part, part}
-use Rattle.ob_positions.specs.Store.{Place, Held, Holds, Refers, Activation, Store}
+use Rattle.ob_meaning.specs.ByPositionValue.{Value, Single, Parts, Values, no_part, part}
+use Rattle.ob_meaning.specs.ByPositionStore.{Place, Held, Holds, Refers, Activation, Store}
 
 -- ---- words
 

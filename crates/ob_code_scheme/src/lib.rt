@@ -1,2 +1,3 @@
-//! A room of ob_code: the definitions of the compiler. Here stand the words of values and frames, what is used of a checked program, its code, and what it means that the code is correct.
+//! The definitions of the compiler: the words of values and frames, what is used of a checked program, its code, and what it means that the
+//! code is correct; with what the parts of that proof owe one another.
 #![tactic(auto)]

@@ -1,17 +1,17 @@
 //! Calls by the code of a module, on one block of words, beside the same calls by the meaning of its tree.
 
+use ob_check::modules::check;
 use ob_checked::checked::Checked;
+use ob_code::generate;
 use ob_code_engine::{CodeEngine, Entrance};
-use ob_code_generate::generate;
-use ob_code_layout::{Layout, encode};
 use ob_code_machine::{Body, BodyTurn, Code};
 use ob_interface::scalar::Scalar;
-use ob_interpreter::call::{Call, Reply};
-use ob_interpreter::object::interpret;
-use ob_interpreter::opening::opening;
+use ob_layout::{Layout, encode};
+use ob_mean::call::{Call, Reply};
+use ob_mean::object::interpret;
+use ob_mean::opening::opening;
 use ob_store::state::State;
 use ob_syntax::reader::read;
-use ob_whole_check::modules::check;
 use std::alloc::Global;
 use std::test::Fail;
 

@@ -1,3 +1,5 @@
-pub mod Turns
-pub mod Submissions
+pub mod Closes
 pub mod Floors
+pub mod Strangers
+pub mod Submissions
+pub mod Turns

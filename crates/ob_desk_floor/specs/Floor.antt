@@ -3,7 +3,7 @@ use Rattle.std.specs.Prelude.{◌≡◌, ℕ, ◌+◌, ◌<◌, ℤ, Bool, List,
 use Rattle.ob_desk_floor.specs.Submission.{submission_of}
 use Rattle.ob_desk_floor.specs.declared.submission.Submission.{Submission}
 use Rattle.ob_interface.specs.Call.{ObjectCall}
-use Rattle.wf_bound.specs.Counted.{spent_by_step}
+use Rattle.wf_table.specs.Counted.{spent_by_step}
 use Rattle.wf_object.specs.View.{Object}
 use Rattle.wf_table.specs.Meaning.{Meaning}
 use Rattle.wf_table.specs.Object.{step_of}

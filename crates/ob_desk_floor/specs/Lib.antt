@@ -1,4 +1,6 @@
-pub mod Submission
-pub mod Seat
-pub mod Floor
 pub mod Agreeing
+pub mod Close
+pub mod Desk
+pub mod Floor
+pub mod Seat
+pub mod Submission

@@ -1,10 +1,8 @@
 //! Desks at which turns are taken by hand, and which are closed with their seats or with others.
 
 use ob_code_engine::CodeEngine;
-use ob_desk_floor::{Seat, TakeTurn};
-use ob_desk_lock::{CloseFault, Desk};
-use ob_desk_serve::opened_desk;
-use ob_desk_texts::read_calls;
+use ob_desk_floor::{CloseFault, Desk, Seat, TakeTurn};
+use ob_desk_serve::{opened_desk, read_calls};
 use ob_interface::NoMemory;
 use ob_object_compile::{Asked, Beginning};
 use ob_object_perform::PerformFault;

@@ -2,8 +2,7 @@
 
 ghost use Rattle.std.specs.Prelude.{◌≤◌};
 
-use ob_desk_texts::{ServeTextFault, serve_text_with};
-use ob_desk_workers::Gate;
+use ob_desk_serve::{Gate, ServeTextFault, serve_text_with};
 use ob_object_compile::{Asked, Beginning};
 use std::sync::Wait;
 use std::sync::atomic::{AtomicU64, Ordering};

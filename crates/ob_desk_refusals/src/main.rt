@@ -6,7 +6,7 @@ mod desks;
 mod gates;
 
 use desks::{Change, Closing};
-use ob_desk_texts::ServeTextFault;
+use ob_desk_serve::ServeTextFault;
 use std::process::ExitCode;
 use std::sync::Wait;
 use std::thread::Threads;

@@ -2,25 +2,25 @@
 use Rattle.std.proofs.Common.{◌≡◌, ◌∙◌, ℕ, List, ap, refl, subst, sym}
 use Rattle.std.proofs.Math.Logic.{∥∥₁_map}
 use Rattle.std.specs.Prelude.{Option, ℤ}
-use Rattle.ob_positions.specs.Store.{Activation}
+use Rattle.ob_meaning.specs.ByPositionStore.{Activation}
 use Rattle.ob_code_engine.specs.CodeEngine.{CompiledParts}
-use Rattle.ob_code_law.specs.CodeMeaning.{EngineParts, code_meaning}
-use Rattle.ob_code_law.specs.Compiled.{HasReserve, IsFitting}
-use Rattle.ob_code_law.specs.Parts.{IsLawfulFor}
-use Rattle.ob_code_layout.specs.Layout.{LayoutParts}
+use Rattle.ob_code_correct.specs.CodeMeaning.{EngineParts, code_meaning}
+use Rattle.ob_code_correct.specs.Compiled.{HasReserve, IsFitting}
+use Rattle.ob_code_correct.specs.Parts.{IsLawfulFor}
+use Rattle.ob_layout.specs.Layout.{LayoutParts}
 use Rattle.ob_code_machine.specs.Body.{Run}
 use Rattle.ob_code_scheme.specs.Layout.{encoded}
-use Rattle.ob_desk_lock.specs.Close as Close
-use Rattle.ob_desk_lock.specs.Desk.{Desk}
-use Rattle.ob_desk_lock.specs.declared.fault.CloseFault.{CloseFault}
+use Rattle.ob_desk_floor.specs.Close as Close
+use Rattle.ob_desk_floor.specs.Desk.{Desk}
+use Rattle.ob_desk_floor.specs.declared.fault.CloseFault.{CloseFault}
 use Rattle.ob_desk_floor.specs.Seat.{Seat}
 use Rattle.ob_desk_serve.specs.Served.{IsLegalRecord, IsMeantRecord, IsRecordOf, desk_of}
-use Rattle.ob_agreement.specs.Same.{SameState}
-use Rattle.ob_meaning.specs.Object as Named
+use Rattle.ob_meaning.specs.Same.{SameState}
+use Rattle.ob_meaning.specs.ByNameObject as Named
 use Rattle.ob_object_compile.specs.Compilation.{ObjectParts}
 use Rattle.ob_object_compile.specs.Sound.{IsSoundObject}
-use Rattle.ob_object_order.specs.LegalOrder.{IsLegalOrder}
-use Rattle.ob_object_record.specs.Record.{Record, carried_from}
+use Rattle.ob_object_run.specs.LegalOrder.{IsLegalOrder}
+use Rattle.ob_text_record.specs.Record.{Record, carried_from}
 use Rattle.ob_object_run.specs.Recorded.{IsLegalFor, IsMeantFor, IsMeantOrder, IsNamedObjectOf, IsObject, IsObjectOf}
 use Rattle.ob_text_words.specs.ScriptCalls.{ScriptCall}
 use Rattle.wf_object.specs.View.{Object}

@@ -9,18 +9,18 @@ use Rattle.std.proofs.lemmas.List.Sums.{sum_by-cons}
 use Rattle.std.proofs.lemmas.List.FromFn.{get_or-map-range_with_len, length-map-range_with_len}
 use Rattle.std.proofs.lemmas.Option.{none-some, same_Some, slice_get-get_or}
 use Rattle.std.proofs.lemmas.Slice.Zip.{AllZip-long}
-use Rattle.ob_desk_lock.specs.Close.{AreSeats, seats_at}
-use Rattle.ob_desk_lock.specs.Desk.{seats_of}
+use Rattle.ob_desk_floor.specs.Close.{AreSeats, seats_at}
+use Rattle.ob_desk_floor.specs.Desk.{seats_of}
 use Rattle.ob_desk_floor.specs.Agreeing.{Agrees}
 use Rattle.ob_desk_floor.specs.Floor.{turns_in}
 use Rattle.ob_desk_floor.specs.Seat.{Seat, answered_call, new_seat}
 use Rattle.ob_desk_floor.specs.declared.seat.CallAnswer.{CallAnswer}
-use Rattle.ob_desk_workers.specs.Rounds.{AreLet, HasWorked, Hears, IsLet, IsRefused, Says}
-use Rattle.ob_desk_workers.specs.declared.worker.Ended.{Ended}
-use Rattle.ob_desk_workers.specs.declared.worker.Worked.{Worked}
+use Rattle.ob_desk_serve.specs.Rounds.{AreLet, HasWorked, Hears, IsLet, IsRefused, Says}
+use Rattle.ob_desk_serve.specs.declared.worker.Ended.{Ended}
+use Rattle.ob_desk_serve.specs.declared.worker.Worked.{Worked}
 use Rattle.ob_interface.specs.Call.{ObjectCall, Reply}
 use Rattle.ob_object_compile.specs.Compilation.{ObjectParts}
-use Rattle.ob_desk_serve.specs.Gathered.{AreBack, AreOf, HaveAllServed, HaveServed, IsGatherFault, NoneEnded, hidden, how_ended, lists_in, started}
+use Rattle.ob_desk_serve.specs.ServeGathered.{AreBack, AreOf, HaveAllServed, HaveServed, IsGatherFault, NoneEnded, hidden, how_ended, lists_in, started}
 use Rattle.ob_desk_serve.specs.ServeFaults.{HasLost, IsFinishFault, IsServeFault, TellsClosing}
 use Rattle.ob_desk_serve.specs.Served.{AreAnswersTold, AreTurnsLet, desk_of}
 use Rattle.ob_desk_serve.specs.declared.ending.HandedBack.{HandedBack}

@@ -1,3 +1,7 @@
-pub mod Gathered
-pub mod Served
+pub mod Joined
+pub mod Rounds
 pub mod ServeFaults
+pub mod ServeGathered
+pub mod Served
+pub mod ServedTexts
+pub mod WorkersGathered

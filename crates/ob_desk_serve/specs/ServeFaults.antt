@@ -1,21 +1,21 @@
 -- What each fault of workers says.
 use Rattle.std.specs.Prelude.{◌≡◌, ℕ, ◌<◌, [], All, List, Option, None, get_or, map}
 use Rattle.ob_code_engine.specs.CodeEngine.{CompiledParts}
-use Rattle.ob_code_law.specs.CodeMeaning.{code_meaning}
-use Rattle.ob_code_law.specs.Compiled.{HasReserve, IsFitting}
-use Rattle.ob_code_law.specs.Parts.{IsLawfulFor}
-use Rattle.ob_desk_lock.specs.Close as Close
-use Rattle.ob_desk_lock.specs.Close.{AreSeats}
-use Rattle.ob_desk_lock.specs.declared.fault.CloseFault.{CloseFault}
+use Rattle.ob_code_correct.specs.CodeMeaning.{code_meaning}
+use Rattle.ob_code_correct.specs.Compiled.{HasReserve, IsFitting}
+use Rattle.ob_code_correct.specs.Parts.{IsLawfulFor}
+use Rattle.ob_desk_floor.specs.Close as Close
+use Rattle.ob_desk_floor.specs.Close.{AreSeats}
+use Rattle.ob_desk_floor.specs.declared.fault.CloseFault.{CloseFault}
 use Rattle.ob_desk_floor.specs.Agreeing.{Agrees}
 use Rattle.ob_desk_floor.specs.Seat.{Seat, answered_call}
 use Rattle.ob_desk_floor.specs.declared.seat.CallAnswer.{CallAnswer}
-use Rattle.ob_desk_workers.specs.Rounds.{Hears, IsRefused, Says}
-use Rattle.ob_desk_workers.specs.declared.worker.Worked.{Worked}
+use Rattle.ob_desk_serve.specs.Rounds.{Hears, IsRefused, Says}
+use Rattle.ob_desk_serve.specs.declared.worker.Worked.{Worked}
 use Rattle.ob_interface.specs.Call.{ObjectCall, Reply}
 use Rattle.ob_object_compile.specs.Compilation.{ObjectParts}
-use Rattle.ob_object_record.specs.Record.{Record}
-use Rattle.ob_desk_serve.specs.Gathered.{HaveAllServed, HaveServed, IsFirst}
+use Rattle.ob_text_record.specs.Record.{Record}
+use Rattle.ob_desk_serve.specs.ServeGathered.{HaveAllServed, HaveServed, IsFirst}
 use Rattle.ob_desk_serve.specs.Served.{EndsFirst, IsRecordOf, calls_for, desk_of}
 use Rattle.ob_desk_serve.specs.declared.fault.ServeFault.{ServeFault}
 use Rattle.ob_desk_serve.specs.declared.fault.ServeFault.TheVariants as Faults

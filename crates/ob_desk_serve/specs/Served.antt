@@ -1,20 +1,20 @@
 -- What the record of workers on an object shows.
 use Rattle.std.specs.Prelude.{◌≡◌, ℕ, ◌<◌, All, List, count_by, map, nat_eq}
 use Rattle.ob_code_engine.specs.CodeEngine.{CompiledParts}
-use Rattle.ob_code_law.specs.CodeMeaning.{EngineParts, code_meaning}
-use Rattle.ob_code_law.specs.Compiled.{HasReserve, IsFitting}
-use Rattle.ob_code_law.specs.Parts.{IsLawfulFor}
+use Rattle.ob_code_correct.specs.CodeMeaning.{EngineParts, code_meaning}
+use Rattle.ob_code_correct.specs.Compiled.{HasReserve, IsFitting}
+use Rattle.ob_code_correct.specs.Parts.{IsLawfulFor}
 use Rattle.ob_code_machine.specs.Body.{Run}
 use Rattle.ob_code_scheme.specs.Layout.{encoded}
-use Rattle.ob_desk_lock.specs.Desk.{Desk, Terms, desk_in}
+use Rattle.ob_desk_floor.specs.Desk.{Desk, Terms, desk_in}
 use Rattle.ob_desk_floor.specs.Floor.{turns_in}
-use Rattle.ob_desk_workers.specs.Rounds.{Hears, IsLet, Says}
+use Rattle.ob_desk_serve.specs.Rounds.{Hears, IsLet, Says}
 use Rattle.ob_interface.specs.Call.{ObjectCall, Reply}
-use Rattle.ob_agreement.specs.Same.{SameState}
-use Rattle.ob_meaning.specs.Object as Named
+use Rattle.ob_meaning.specs.Same.{SameState}
+use Rattle.ob_meaning.specs.ByNameObject as Named
 use Rattle.ob_object_compile.specs.Compilation.{ObjectParts}
-use Rattle.ob_object_order.specs.LegalOrder.{IsLegalOrder}
-use Rattle.ob_object_record.specs.Record.{Record, carried_from}
+use Rattle.ob_object_run.specs.LegalOrder.{IsLegalOrder}
+use Rattle.ob_text_record.specs.Record.{Record, carried_from}
 use Rattle.ob_object_run.specs.Recorded.{IsMeantOrder}
 use Rattle.ob_text_words.specs.ScriptCalls.{ScriptCall}
 use Rattle.wf_history.specs.History.{Event, own_answers}

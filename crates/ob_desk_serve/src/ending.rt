@@ -1,11 +1,11 @@
 //! What is made of a desk's workers when all have ended.
 
 ghost use Rattle.std.specs.Prelude.{◌≡◌, IfErr, IfNone, IfOk, IfSome};
-ghost use Rattle.ob_desk_serve.specs.Gathered.{AreBack, AreSplit, IsFirst, IsGatherFault, NoneEnded, how_ended};
+ghost use Rattle.ob_desk_serve.specs.ServeGathered.{AreBack, AreSplit, IsFirst, IsGatherFault, NoneEnded, how_ended};
 
 use crate::fault::ServeFault;
+use crate::{Ended, Worked};
 use ob_desk_floor::{CallAnswer, Seat};
-use ob_desk_workers::{Ended, Worked};
 use std::alloc::{AllocError, Global};
 
 /// The seats that workers handed back, and the answers of each, in the order of their processes.

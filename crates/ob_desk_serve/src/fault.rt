@@ -1,6 +1,6 @@
 //! Why workers give no record.
 
-use ob_desk_lock::CloseFault;
+use ob_desk_floor::CloseFault;
 use ob_interface::NoMemory;
 use std::alloc::AllocError;
 use thiserror::Error;

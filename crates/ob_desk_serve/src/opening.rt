@@ -1,8 +1,8 @@
 //! The desk of an object.
 
 ghost use Rattle.std.specs.Prelude.{◌≡◌, ◌<◌, ◌≤◌, All, IfOk, map};
-ghost use Rattle.ob_code_law.specs.Compiled.{IsFitting};
-ghost use Rattle.ob_desk_lock.specs.Desk.{seats_of};
+ghost use Rattle.ob_code_correct.specs.Compiled.{IsFitting};
+ghost use Rattle.ob_desk_floor.specs.Desk.{seats_of};
 ghost use Rattle.ob_desk_floor.specs.Submission.{submission_of};
 ghost use Rattle.ob_object_compile.specs.Sound.{IsSoundObject};
 ghost use Rattle.ob_object_compile.specs.View.{object_in};
@@ -11,10 +11,9 @@ ghost use Rattle.ob_text_words.specs.ScriptCalls.{object_call, script_call_of};
 ghost use Rattle.wf_play.specs.Played.{scripts_of};
 
 use ob_code_engine::CodeEngine;
-use ob_code_layout::encode;
-use ob_desk_floor::{Opening, Seat, Submission};
-use ob_desk_lock::Desk;
+use ob_desk_floor::{Desk, Opening, Seat, Submission};
 use ob_interface::{MOST_PROCESSES, NoMemory};
+use ob_layout::encode;
 use ob_object_compile::Object;
 use ob_text_words::script_call::ScriptCall;
 use std::alloc::{AllocError, Global};

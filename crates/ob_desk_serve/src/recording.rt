@@ -5,14 +5,14 @@ ghost use Rattle.ob_code_scheme.specs.Layout.{encoded};
 ghost use Rattle.ob_desk_serve.specs.Served.{IsLegalRecord, IsMeantRecord};
 ghost use Rattle.ob_object_compile.specs.Sound.{IsSoundObject};
 ghost use Rattle.ob_object_compile.specs.View.{object_in};
-ghost use Rattle.ob_object_record.specs.Record.{carried_from, record_of};
+ghost use Rattle.ob_text_record.specs.Record.{carried_from, record_of};
 ghost use Rattle.ob_object_run.specs.Recorded.{DoFit};
 
 use ob_code_engine::CodeEngine;
 use ob_interface::NoMemory;
 use ob_object_compile::Object;
-use ob_object_record::{Record, carried_copy};
 use ob_object_run::recorded;
+use ob_text_record::{Record, carried_copy};
 use std::alloc::Global;
 use wf_object::Machine;
 

@@ -1,14 +1,14 @@
 //! One worker for each process, and the record of what they did.
 
 ghost use Rattle.std.specs.Prelude.{◌≡◌, ◌<◌, ◌≤◌, All, IfErr, IfOk, OnOk, length, map};
-ghost use Rattle.ob_code_law.specs.Compiled.{IsFitting};
-ghost use Rattle.ob_desk_lock.specs.Close.{AreSeats};
+ghost use Rattle.ob_code_correct.specs.Compiled.{IsFitting};
+ghost use Rattle.ob_desk_floor.specs.Close.{AreSeats};
 ghost use Rattle.ob_desk_floor.specs.Agreeing.{Agrees};
 ghost use Rattle.ob_object_compile.specs.Sound.{IsSoundObject};
 ghost use Rattle.ob_object_compile.specs.View.{object_in};
-ghost use Rattle.ob_object_record.specs.Record.{record_of};
+ghost use Rattle.ob_text_record.specs.Record.{record_of};
 ghost use Rattle.ob_object_run.specs.Recorded.{DoFit};
-ghost use Rattle.ob_desk_serve.specs.Gathered.{lists_in};
+ghost use Rattle.ob_desk_serve.specs.ServeGathered.{lists_in};
 ghost use Rattle.ob_desk_serve.specs.ServeFaults.{IsFinishFault, IsServeFault};
 ghost use Rattle.ob_desk_serve.specs.Served.{AreAnswersTold, AreTurnsLet, HaveEnded, IsRecordOf, desk_of, kept_desk};
 ghost use Rattle.ob_text_words.specs.ScriptCalls.{object_call, script_call_of};
@@ -18,12 +18,12 @@ use crate::ending::{HandedBack, handed_back};
 use crate::fault::ServeFault;
 use crate::opening::opened_desk;
 use crate::recording::record_of_machine;
+use crate::{Gate, gather};
 use ob_code_engine::CodeEngine;
-use ob_desk_lock::Desk;
-use ob_desk_workers::{Gate, gather};
+use ob_desk_floor::Desk;
 use ob_interface::MOST_PROCESSES;
 use ob_object_compile::Object;
-use ob_object_record::Record;
+use ob_text_record::Record;
 use ob_text_words::script_call::ScriptCall;
 use std::alloc::Global;
 use std::sync::Wait;

@@ -5,10 +5,9 @@ ghost use Rattle.ob_object_compile.specs.Sound.{IsSoundObject};
 ghost use Rattle.ob_object_compile.specs.View.{object_in};
 
 use ob_code_engine::CodeEngine;
-use ob_code_layout::encode;
-use ob_desk_floor::{Floor, Opening, Seat};
-use ob_desk_lock::{CloseFault, Terms, settle};
+use ob_desk_floor::{CloseFault, Floor, Opening, Seat, Terms, settle};
 use ob_desk_serve::opening::submissions;
+use ob_layout::encode;
 use ob_object_compile::laws::compilations_are_sound;
 use ob_object_compile::{Object, compile};
 use ob_text_scripts::read_scripts;

@@ -1,8 +1,8 @@
 //! Names of procedures and of what is declared, by the tokens of a text alone.
 
 use ob_evidence::site::{Site, is_kind};
-use ob_explain_tokens::actuals::ends_call;
-use ob_explain_tokens::open::open_construct;
+use ob_explain_names::actuals::ends_call;
+use ob_explain_names::open::open_construct;
 use ob_scan::{Kind, Token};
 
 /// Whether a procedure of this name is declared among these tokens.

@@ -16,11 +16,11 @@ use ob_evidence::numbers::{first_operand, is_known, length_there, second_operand
 use ob_evidence::site::{Site, is_kind, kind_or_name, rest_of};
 use ob_evidence::types::types_there;
 use ob_evidence::words::{are_told, is_counted, is_in_procedure, told_words, words_there};
-use ob_explain_nearest::distance::bytes_of;
-use ob_explain_operands::declarations::in_record;
-use ob_explain_tokens::actuals::actual_count;
-use ob_explain_tokens::open::open_construct;
-use ob_explain_tokens::parens::is_in_parens;
+use ob_explain_names::actuals::actual_count;
+use ob_explain_names::declarations::in_record;
+use ob_explain_names::open::open_construct;
+use ob_explain_names::parens::is_in_parens;
+use ob_explain_words::distance::bytes_of;
 use ob_messages::remark::Remark;
 use ob_messages::said::Evidence;
 use ob_messages::table::{Fact, Number};

@@ -11,7 +11,7 @@ use crate::missing::missing_there;
 use ob_evidence::constructs::{Shown, shown_there};
 use ob_evidence::facts::note;
 use ob_evidence::site::{Site, is_kind};
-use ob_explain_tokens::open::open_construct;
+use ob_explain_names::open::open_construct;
 use ob_messages::table::Fact;
 use ob_scan::{Kind, Token};
 use std::alloc::{AllocError, Global};

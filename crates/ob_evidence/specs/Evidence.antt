@@ -3,11 +3,11 @@
 use Rattle.std.specs.Prelude.{◌≡◌, Bool, List, [], ◌∷◌, Option, None}
 use Rattle.ob_scan.specs.declared.token.Kind.TheVariants as Kinds
 use Rattle.ob_scan.specs.declared.token.Token.{Token}
-use Rattle.ob_explain_nearest.specs.Distance.{bytes_of}
-use Rattle.ob_explain_operands.specs.Declarations.{in_record, is_there}
-use Rattle.ob_explain_tokens.specs.Actuals.{actual_count}
-use Rattle.ob_explain_tokens.specs.Open.{open_construct}
-use Rattle.ob_explain_tokens.specs.Parens.{is_in_parens}
+use Rattle.ob_explain_words.specs.Distance.{bytes_of}
+use Rattle.ob_explain_names.specs.Declarations.{in_record, is_there}
+use Rattle.ob_explain_names.specs.Actuals.{actual_count}
+use Rattle.ob_explain_names.specs.Open.{open_construct}
+use Rattle.ob_explain_names.specs.Parens.{is_in_parens}
 use Rattle.ob_messages.specs.Said.{Evidence}
 use Rattle.ob_messages.specs.declared.table.Fact.{Fact}
 use Rattle.ob_messages.specs.declared.table.Fact.TheVariants as Facts

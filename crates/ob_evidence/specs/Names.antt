@@ -6,11 +6,11 @@ use Rattle.ob_explain_names.specs.Lookup.{sort_of}
 use Rattle.ob_explain_names.specs.declared.known.Known.{Known}
 use Rattle.ob_explain_names.specs.declared.known.Sort.{Sort}
 use Rattle.ob_explain_names.specs.declared.known.Sort.TheVariants as Sorts
-use Rattle.ob_explain_nearest.specs.Nearest.{nearest, nearest_token}
-use Rattle.ob_explain_nearest.specs.declared.distance.Candidate.{Candidate}
-use Rattle.ob_explain_operands.specs.Declarations.{declared_as}
+use Rattle.ob_explain_words.specs.Nearest.{nearest, nearest_token}
+use Rattle.ob_explain_words.specs.declared.distance.Candidate.{Candidate}
+use Rattle.ob_explain_names.specs.Declarations.{declared_as}
 use Rattle.ob_explain_parts.specs.FieldNames.{fields_at}
-use Rattle.ob_explain_tokens.specs.Ends.{name_of_end}
+use Rattle.ob_explain_names.specs.Ends.{name_of_end}
 use Rattle.ob_messages.specs.Places.{place_in}
 use Rattle.ob_messages.specs.declared.table.Fact.{Fact}
 use Rattle.ob_messages.specs.declared.table.Fact.TheVariants as Facts

@@ -1,18 +1,18 @@
 //! Names: the nearest one, what a name is declared as and where, and the name that stands behind an END.
 
 ghost use Rattle.std.specs.Prelude.{◌≡◌, IfOk};
-ghost use Rattle.ob_explain_operands.specs.Declarations.{is_there};
+ghost use Rattle.ob_explain_names.specs.Declarations.{is_there};
 ghost use Rattle.ob_evidence.specs.Names.{declared, declared_line, end_name, is_near, near_name, parameters, sort_fact, sort_facts, sort_there};
 ghost use Rattle.ob_evidence.specs.Sites.{scene_of};
 
 use crate::site::{Site, is_kind};
+use ob_explain_names::declarations::declared_as;
+use ob_explain_names::ends::name_of_end;
 use ob_explain_names::known::{Known, Sort};
 use ob_explain_names::lookup::sort_of;
-use ob_explain_nearest::distance::{Candidate, FAR};
-use ob_explain_nearest::nearest::{nearest, nearest_token};
-use ob_explain_operands::declarations::declared_as;
 use ob_explain_parts::field_names::fields_at;
-use ob_explain_tokens::ends::name_of_end;
+use ob_explain_words::distance::{Candidate, FAR};
+use ob_explain_words::nearest::{nearest, nearest_token};
 use ob_messages::place::place_in;
 use ob_messages::table::Fact;
 use ob_scan::{Kind, Token};

@@ -5,7 +5,7 @@ use Rattle.std.proofs.lemmas.Option.{slice_get-get_or, slice_get-map}
 use Rattle.ob_interface.specs.declared.scalar.Scalar.{Scalar}
 use Rattle.ob_interface.specs.declared.scalar.ScalarType.{ScalarType}
 use Rattle.ob_text_words.specs.Words.{Word}
-use Rattle.ob_text_exports.specs.Values.{IsValue}
+use Rattle.ob_text_words.specs.Values.{IsValue}
 use Rattle.ob_explain_arguments.specs.Calls.{name_told}
 use Rattle.ob_explain_arguments.specs.Misfits.{FitsAt, FitsUpTo, MisfitsAt}
 

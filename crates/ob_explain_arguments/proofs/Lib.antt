@@ -1,4 +1,4 @@
-pub mod Fits
-pub mod Searches
-pub mod Pushes
 pub mod Declares
+pub mod Fits
+pub mod Pushes
+pub mod Searches

@@ -3,8 +3,8 @@ use Rattle.std.specs.Prelude.{◌≡◌, Bool, ℕ, List, [], ◌∷◌, ◌++�
 use Rattle.ob_interface.specs.declared.scalar.ScalarType.{ScalarType}
 use Rattle.ob_interface.specs.Export.{Signature, value_types}
 use Rattle.ob_text_words.specs.Words.{Word}
-use Rattle.ob_text_exports.specs.ExportNames.{export_named}
-use Rattle.ob_explain_forms.specs.Values.{mark_sentence}
+use Rattle.ob_text_words.specs.ExportNames.{export_named}
+use Rattle.ob_explain_arguments.specs.Values.{mark_sentence}
 use Rattle.ob_explain_arguments.specs.DeclaredNames.{IsDeclared}
 use Rattle.ob_explain_arguments.specs.Misfits.{TellsMisfit}
 use Rattle.ob_explain_arguments.specs.Sentences.{count_sentence, unknown_text, value_sentence}

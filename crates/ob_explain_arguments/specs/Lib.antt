@@ -1,5 +1,10 @@
+pub mod Calls
+pub mod DeclaredNames
+pub mod Items
+pub mod Marks
 pub mod Misfits
 pub mod Near
+pub mod Records
+pub mod ScriptLines
 pub mod Sentences
-pub mod DeclaredNames
-pub mod Calls
+pub mod Values

@@ -3,7 +3,7 @@ use Rattle.std.specs.Prelude.{◌≡◌, ◌≢◌, ◌<◌, ℕ, List, length, 
 use Rattle.ob_interface.specs.declared.scalar.Scalar.{Scalar}
 use Rattle.ob_interface.specs.declared.scalar.ScalarType.{ScalarType}
 use Rattle.ob_text_words.specs.Words.{Word}
-use Rattle.ob_text_exports.specs.Values.{IsValue}
+use Rattle.ob_text_words.specs.Values.{IsValue}
 use Rattle.ob_explain_arguments.specs.declared.misfit.Misfit.{Misfit}
 use Rattle.ob_explain_arguments.specs.declared.misfit.Misfit.TheVariants.{Count, Value}
 

@@ -9,10 +9,10 @@ ghost use Rattle.ob_explain_arguments.specs.Calls.{value_word};
 use crate::declared::is_declared;
 use crate::misfit::{Misfit, first_misfit};
 use crate::sentences::{count_sentence, unknown_text, value_sentence};
-use ob_explain_forms::values::mark_sentence;
+use crate::values::mark_sentence;
 use ob_interface::export::{Export, Formal};
 use ob_interface::scalar::ScalarType;
-use ob_text_exports::exports::export_named;
+use ob_text_words::exports::export_named;
 use std::alloc::{AllocError, Global};
 
 /// A sentence on the value of a number, counted from 0, or on the name where there is no number.

@@ -1,3 +1,11 @@
+pub mod Actuals
+pub mod Around
+pub mod Declarations
+pub mod Ends
+pub mod Kinds
 pub mod Known
-pub mod Visible
 pub mod Lookup
+pub mod Numerals
+pub mod Open
+pub mod Parens
+pub mod Visible

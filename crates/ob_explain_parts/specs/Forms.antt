@@ -5,17 +5,17 @@ use Rattle.ob_explain_names.specs.Lookup.{name_at}
 use Rattle.ob_explain_names.specs.declared.known.Known.{Known}
 use Rattle.ob_explain_names.specs.declared.known.Sort.{Sort}
 use Rattle.ob_explain_names.specs.declared.known.Sort.TheVariants as Sorts
-use Rattle.ob_explain_tokens.specs.Around as Tokens
-use Rattle.ob_explain_operands.specs.Declarations.{declared_as, first_of, is_there}
-use Rattle.ob_explain_operands.specs.Kinds.{is_array, is_comma, is_left, is_name, is_not, is_number, is_record, is_relation, is_right, is_semicolon, is_sign}
-use Rattle.ob_explain_operands.specs.Numerals.{numeral_behind}
+use Rattle.ob_explain_names.specs.Around as Tokens
+use Rattle.ob_explain_names.specs.Declarations.{declared_as, first_of, is_there}
+use Rattle.ob_explain_names.specs.Kinds.{is_array, is_comma, is_left, is_name, is_not, is_number, is_record, is_relation, is_right, is_semicolon, is_sign}
+use Rattle.ob_explain_names.specs.Numerals.{numeral_behind}
 use Rattle.ob_explain_parts.specs.Parts.{is_value, operand_start, selected}
 use Rattle.ob_explain_parts.specs.Types.{declared_type, meant}
 use Rattle.ob_explain_parts.specs.declared.forms.Form.{Form}
 use Rattle.ob_explain_parts.specs.declared.forms.Form.TheVariants.{Integer, Boolean, Single, Array, Record, Unknown}
 use Rattle.ob_explain_parts.specs.declared.forms.Role.{Role}
 use Rattle.ob_explain_parts.specs.declared.forms.Role.TheVariants.{Compared, Actual, Other}
-use Rattle.ob_explain_operands.specs.declared.numerals.Numeral.{Numeral}
+use Rattle.ob_explain_names.specs.declared.numerals.Numeral.{Numeral}
 use Rattle.ob_explain_parts.specs.declared.parts.Selection.{Selection}
 use Rattle.ob_explain_parts.specs.declared.parts.Selecting.TheVariants.{Part}
 use Rattle.ob_explain_parts.specs.declared.types.Standing.{Standing}

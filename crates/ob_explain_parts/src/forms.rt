@@ -1,7 +1,7 @@
 //! Of which type an operand is, by the tokens beside a place and the declaration of its name.
 
 ghost use Rattle.std.specs.Prelude.{◌≡◌, IfOk};
-ghost use Rattle.ob_explain_operands.specs.Declarations.{declared_as};
+ghost use Rattle.ob_explain_names.specs.Declarations.{declared_as};
 ghost use Rattle.ob_explain_parts.specs.Forms.{begins_actual, behind_operand, constant_form, ends_actual, form_before, form_behind, form_by};
 ghost use Rattle.ob_explain_parts.specs.Forms.{form_instead, form_of_name, form_of_type, is_own, is_relation_there, operand_form, or_single, other};
 ghost use Rattle.ob_explain_parts.specs.Forms.{other_of, own_form, role_between, role_of, told_form, truth_behind, truth_form, type_form};
@@ -9,15 +9,15 @@ ghost use Rattle.ob_explain_parts.specs.Forms.{variable_at};
 
 use crate::parts::{Selection, is_value, operand_start, selected};
 use crate::types::{Standing, declared_type, meant};
-use ob_explain_names::known::{Known, Sort};
-use ob_explain_names::lookup::name_at;
-use ob_explain_operands::declarations::{declared_as, first_of, is_declared};
-use ob_explain_operands::kinds::{
+use ob_explain_names::around::tokens_behind;
+use ob_explain_names::declarations::{declared_as, first_of, is_declared};
+use ob_explain_names::kinds::{
     is_array, is_comma, is_left, is_name, is_not, is_number, is_record, is_relation, is_right,
     is_semicolon, is_sign,
 };
-use ob_explain_operands::numerals::{Numeral, numeral_behind};
-use ob_explain_tokens::around::tokens_behind;
+use ob_explain_names::known::{Known, Sort};
+use ob_explain_names::lookup::name_at;
+use ob_explain_names::numerals::{Numeral, numeral_behind};
 use ob_messages::words::is_same;
 use ob_scan::Token;
 use std::alloc::{AllocError, Global};

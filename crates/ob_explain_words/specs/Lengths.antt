@@ -4,11 +4,11 @@ use Rattle.std.specs.Char.{is_ascii_digit}
 use Rattle.std.specs.List.{list_all}
 use Rattle.ob_scan.specs.Spelling.{number_value}
 use Rattle.ob_scan.specs.declared.token.Token.{Token}
-use Rattle.ob_explain_operands.specs.Declarations.{token_bytes}
-use Rattle.ob_explain_operands.specs.Numerals.{numeral_next}
-use Rattle.ob_explain_operands.specs.declared.numerals.Numeral.{Numeral}
+use Rattle.ob_explain_names.specs.Declarations.{token_bytes}
+use Rattle.ob_explain_names.specs.Numerals.{numeral_next}
+use Rattle.ob_explain_names.specs.declared.numerals.Numeral.{Numeral}
 use Rattle.ob_explain_words.specs.Counts.{fitting}
-use Rattle.ob_explain_operands.specs.Kinds.{is_of}
+use Rattle.ob_explain_names.specs.Kinds.{is_of}
 use Rattle.ob_explain_words.specs.Scopes.{Scope}
 
 abbrev pub are_digits : List ℕ → Bool

@@ -1,7 +1,10 @@
-pub mod Kinds
 pub mod Counts
-pub mod Named
-pub mod Scopes
+pub mod Distance
+pub mod Edits
+pub mod Kinds
 pub mod Lengths
+pub mod Named
+pub mod Nearest
+pub mod Scopes
 pub mod Types
 pub mod Words

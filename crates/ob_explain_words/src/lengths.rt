@@ -5,9 +5,9 @@ ghost use Rattle.ob_explain_words.specs.Lengths.{length_behind, value_of, value_
 ghost use Rattle.ob_explain_words.specs.Scopes.{scope_of};
 
 use crate::scope::Scope;
-use ob_explain_operands::declarations::token_bytes;
-use ob_explain_operands::kinds::is_of;
-use ob_explain_operands::numerals::{Numeral, numeral_next};
+use ob_explain_names::declarations::token_bytes;
+use ob_explain_names::kinds::is_of;
+use ob_explain_names::numerals::{Numeral, numeral_next};
 use ob_scan::Token;
 use ob_text_words::numbers::read_numeral;
 use std::alloc::{AllocError, Global};

@@ -1,4 +1,9 @@
+pub mod Appended
+pub mod Explained
 pub mod Feeds
+pub mod ItemPlaces
 pub mod Lines
-pub mod WordPlaces
 pub mod Marked
+pub mod ToldLines
+pub mod ValueLines
+pub mod WordPlaces

@@ -1,7 +1,7 @@
 //! What is wrong with a call of a script that names no export, or whose values don't fit, in a sentence.
 
 ghost use Rattle.std.specs.Prelude.{◌≡◌, ◌⊎◌, suc, IfOk, IfSome, map, option_map};
-ghost use Rattle.ob_check_text.specs.CheckedText.{IsNumberedText, TellsTextMemoryApart, is_text_memory};
+ghost use Rattle.ob_check.specs.CheckedText.{IsNumberedText, TellsTextMemoryApart, is_text_memory};
 ghost use Rattle.ob_messages.specs.Places.{line_from};
 ghost use Rattle.ob_messages.specs.Remarks.{remark_of};
 ghost use Rattle.ob_explain_arguments.specs.Calls.{told_of};
@@ -15,8 +15,8 @@ ghost use Rattle.ob_typing.specs.Program.{Program};
 
 use crate::script_place::{script_line, value_place};
 use crate::script_remark::{place_of_name, script_remark};
-use ob_check_text::TextFault;
-use ob_check_text::checked_text::checked_text;
+use ob_check::TextFault;
+use ob_check::checked_text::checked_text;
 use ob_explain_arguments::call::{Told, told_call};
 use ob_interface::export::Export;
 use ob_messages::remark::Remark;

@@ -9,14 +9,14 @@ use crate::call_remark::calls_remark;
 use crate::number_fault::{
     budget_explanation, long_code_explanation, long_text_explanation, processes_explanation,
 };
-use ob_check_text::TextFault;
+use crate::opening::open_explanation;
+use ob_check::TextFault;
 use ob_diagnosis::remark::{check_remark, parse_remark, scan_remark};
 use ob_messages::explanation::explanation;
 use ob_messages::remark::Remark;
+use ob_object_calls::SeqTextFault;
 use ob_object_compile::CompileFault;
-use ob_object_sequence::SeqTextFault;
 use ob_scan::ScanFault;
-use ob_trap_told::opening::open_explanation;
 use std::alloc::{AllocError, Global};
 
 /// The processes that make the calls of a script one at a time.

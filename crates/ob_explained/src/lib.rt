@@ -1,10 +1,24 @@
-//! What is wrong with a module, or with a module and a script, as people read it: each fault that has a place, with its line.
+//! What `explain` tells of a module with its scripts: its faults, those of the values that it is given, and the traps of its calls.
+//!
+//! One may rely on the place that is shown and on what is said of it being true. Words may change without asking.
 #![tactic(auto)]
 
 pub mod call_remark;
+pub mod cause;
 pub mod explained;
+pub mod item_place;
+pub mod laws;
 pub mod number_fault;
+pub mod opening;
+pub mod run;
+pub mod run_remark;
 pub mod script_place;
 pub mod script_remark;
+pub mod source;
+pub mod value_line;
+pub mod values_explained;
 
 pub use explained::{calls_explanation, module_explanation, object_explanation};
+pub use run::run_explanation;
+pub use source::Source;
+pub use values_explained::{carry_explanation, values_explanation};

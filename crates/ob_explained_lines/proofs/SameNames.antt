@@ -2,7 +2,7 @@
 use Rattle.std.proofs.Common.{◌≡◌, ◌∙◌, Bool, true, false, ◌⊎◌, ap, eq-eqb, inl, inr}
 use Rattle.std.proofs.lemmas.Bool.{cases_eq, ne_eqb}
 use Rattle.std.specs.Prelude.{◌&&◌, nat_eq}
-use Rattle.ob_object_order.specs.Places.{same_id}
+use Rattle.ob_object_run.specs.Places.{same_id}
 use Rattle.wf_history.proofs.Positions.{same_call}
 use Rattle.wf_history.specs.declared.event.CallId.{CallId}
 

@@ -21,7 +21,7 @@ use Rattle.ob_explained_lines.specs.declared.record_line.Wanted.TheVariants as W
 use Rattle.ob_interface.specs.Export.{Signature, var_types}
 use Rattle.ob_interface.specs.View.{signature_of}
 use Rattle.ob_interface.specs.declared.scalar.ScalarType.{ScalarType}
-use Rattle.ob_text_exports.specs.ExportNames.{export_named}
+use Rattle.ob_text_words.specs.ExportNames.{export_named}
 use Rattle.ob_text_values_reading.specs.Comments.{line_number}
 use Rattle.ob_text_words.specs.Words.{IsNumeral, Word, lines, words}
 use Rattle.wf_history.specs.declared.event.CallId.{CallId}

@@ -2,7 +2,7 @@
 
 ghost use Rattle.std.specs.Prelude.{◌≡◌, ◌↔◌, ◌<◌, IfSome, IsTrue, MatchOption, length, map};
 ghost use Rattle.ob_explained_lines.specs.CallNames.{IsFirstNaming, IsNextNaming, NamesNone, Names};
-ghost use Rattle.ob_object_order.specs.Places.{same_id};
+ghost use Rattle.ob_object_run.specs.Places.{same_id};
 ghost use Rattle.wf_history.specs.declared.event.CallId.{CallId};
 
 use ob_interface::MOST_PROCESSES;

@@ -1,2 +1,6 @@
+pub mod Counts
+pub mod Ends
+pub mod Lines
 pub mod Somewhere
+pub mod TrapsOfCalls
 pub mod VariableNames

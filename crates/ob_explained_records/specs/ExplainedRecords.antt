@@ -4,10 +4,10 @@ use Rattle.ob_messages.specs.Remarks.{Remark}
 use Rattle.ob_explained.specs.Explained.{IsTextExplanation}
 use Rattle.ob_explained_records.specs.FormRemarks.{IsFormRemark}
 use Rattle.ob_explained_records.specs.OrderRemarks.{IsOrderRemark}
-use Rattle.ob_explained_runs.specs.Sources.{Source, shown_in}
-use Rattle.ob_object_verify.specs.declared.verifying.VerifyFault.{VerifyFault}
-use Rattle.ob_object_verify.specs.declared.verifying.VerifyFault.TheVariants as Faults
-use Rattle.ob_trap_told.specs.Openings.{IsOpenExplanation}
+use Rattle.ob_explained.specs.Sources.{Source, shown_in}
+use Rattle.ob_object_calls.specs.declared.verifying.VerifyFault.{VerifyFault}
+use Rattle.ob_object_calls.specs.declared.verifying.VerifyFault.TheVariants as Faults
+use Rattle.ob_explained.specs.Openings.{IsOpenExplanation}
 
 -- the fault of the one stands in the one, and that of the other in the other; of an opening the operation is told that traps
 abbrev pub IsRecordExplanation : (object record_file : Source) → VerifyFault → Option (List ℕ) → Type 0

@@ -1,5 +1,9 @@
-pub mod FormRemarks
-pub mod OrderPlaces
-pub mod MadeTexts
-pub mod OrderRemarks
+pub mod CallLines
+pub mod ExplainedHistories
 pub mod ExplainedRecords
+pub mod FormRemarks
+pub mod MadeTexts
+pub mod OrderPlaces
+pub mod OrderRemarks
+pub mod TrapLines
+pub mod TrapsText

@@ -1,7 +1,7 @@
 -- What is said of a call that comes to another reply than its record says.
 use Rattle.std.specs.Prelude.{ℕ, ◌-◌, ◌==◌, nat_lt, List, ◌++◌, Option, None, Some, codes, drop, if◌then◌else◌, length}
-use Rattle.ob_object_replies.specs.MadeCalls.{MadeCall}
-use Rattle.ob_reply.specs.ReplyLines.{reply_text}
+use Rattle.ob_object_calls.specs.MadeCalls.{MadeCall}
+use Rattle.ob_text_words.specs.ReplyLines.{reply_text}
 use Rattle.ob_text_record.specs.RecordText.{ids_text}
 use Rattle.wf_history.specs.declared.event.CallId.{CallId}
 

@@ -3,18 +3,18 @@
 ghost use Rattle.std.specs.Prelude.{◌≡◌, ◌++◌, codes, IfOk, OnOk, option_map, string_bytes};
 ghost use Rattle.std.specs.List.{flat_map};
 ghost use Rattle.ob_explained_records.specs.MadeTexts.{before_text, last_calls, last_ids, made_text, other_reply_text};
-ghost use Rattle.ob_interpreter.specs.View.{reply_of};
-ghost use Rattle.ob_object_replies.specs.View.{made_of};
-ghost use Rattle.ob_reply.specs.ReplyLines.{reply_text};
+ghost use Rattle.ob_mean.specs.View.{reply_of};
+ghost use Rattle.ob_object_calls.specs.View.{made_of};
+ghost use Rattle.ob_text_words.specs.ReplyLines.{reply_text};
 ghost use Rattle.ob_text_record.specs.RecordText.{ids_text};
 ghost use Rattle.ob_text_words.specs.ScalarTexts.{scalar_text};
 
 use ob_interface::scalar::Scalar;
-use ob_interpreter::call::Reply;
-use ob_object_replies::MadeCall;
+use ob_mean::call::Reply;
+use ob_object_calls::MadeCall;
 use ob_text_record::push_id;
 use ob_text_words::numbers::push_number;
-use ob_text_words::values::push_value;
+use ob_text_words::scalar_words::push_value;
 use std::alloc::{AllocError, Global};
 use wf_history::CallId;
 

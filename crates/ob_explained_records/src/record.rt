@@ -2,14 +2,14 @@
 
 ghost use Rattle.std.specs.Prelude.{IfOk, option_map, string_bytes};
 ghost use Rattle.ob_explained_records.specs.ExplainedRecords.{IsRecordExplanation};
-ghost use Rattle.ob_explained_runs.specs.Sources.{source_of};
+ghost use Rattle.ob_explained.specs.Sources.{source_of};
 
-use crate::form_remark::form_remark;
 use crate::order_remark::order_remark;
+use crate::records_form_remark::form_remark;
 use ob_explained::module_explanation;
-use ob_explained_runs::source::{Source, shown};
+use ob_explained::source::{Source, shown};
+use ob_object_calls::VerifyFault;
 use ob_object_compile::CompileFault;
-use ob_object_verify::VerifyFault;
 use std::alloc::{AllocError, Global};
 
 /// What is shown of a fault of a module and a record; `None` where the fault has no place in their texts and is none

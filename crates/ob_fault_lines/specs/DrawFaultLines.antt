@@ -5,8 +5,8 @@ use Rattle.ob_object_draw.specs.declared.drawing.DrawRecordFault.{DrawRecordFaul
 use Rattle.ob_object_draw.specs.declared.drawing.DrawRecordFault.TheVariants as Records
 use Rattle.ob_object_perform.specs.declared.drawing.DrawFault.{DrawFault}
 use Rattle.ob_object_perform.specs.declared.drawing.DrawFault.TheVariants as Faults
-use Rattle.ob_text_picture_chart.specs.declared.fault.PictureFault.{PictureFault}
-use Rattle.ob_text_picture_chart.specs.declared.fault.PictureFault.TheVariants as Pictures
+use Rattle.ob_picture_chart.specs.declared.fault.PictureFault.{PictureFault}
+use Rattle.ob_picture_chart.specs.declared.fault.PictureFault.TheVariants as Pictures
 use Rattle.ob_fault_lines.specs.ModuleFaultLines.{Text, no_memory_line, open_line, text_line}
 use Rattle.ob_fault_lines.specs.RunFaultLines.{run_fault_line}
 use Rattle.ob_fault_lines.specs.ScriptFaultLines.{at_line}

@@ -1,7 +1,7 @@
 -- The line that tells each fault of calls made one after the other.
 use Rattle.ob_object_compile.specs.Asked.{Beginning}
-use Rattle.ob_object_sequence.specs.declared.sequential.SeqTextFault.{SeqTextFault}
-use Rattle.ob_object_sequence.specs.declared.sequential.SeqTextFault.TheVariants as Runs
+use Rattle.ob_object_calls.specs.declared.sequential.SeqTextFault.{SeqTextFault}
+use Rattle.ob_object_calls.specs.declared.sequential.SeqTextFault.TheVariants as Runs
 use Rattle.ob_fault_lines.specs.CompileFaultLines.{compile_line}
 use Rattle.ob_fault_lines.specs.ModuleFaultLines.{Text, no_memory_line}
 use Rattle.ob_fault_lines.specs.ScriptFaultLines.{script_line}

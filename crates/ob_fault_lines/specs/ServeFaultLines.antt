@@ -1,11 +1,11 @@
 -- The line that tells each fault of workers served from texts.
 use Rattle.std.specs.Prelude.{ℕ, ◌++◌, codes, decimal}
-use Rattle.ob_desk_lock.specs.declared.fault.CloseFault.{CloseFault}
-use Rattle.ob_desk_lock.specs.declared.fault.CloseFault.TheVariants as Close
+use Rattle.ob_desk_floor.specs.declared.fault.CloseFault.{CloseFault}
+use Rattle.ob_desk_floor.specs.declared.fault.CloseFault.TheVariants as Close
 use Rattle.ob_desk_serve.specs.declared.fault.ServeFault.{ServeFault}
 use Rattle.ob_desk_serve.specs.declared.fault.ServeFault.TheVariants as Serve
-use Rattle.ob_desk_texts.specs.declared.texts.ServeTextFault.{ServeTextFault}
-use Rattle.ob_desk_texts.specs.declared.texts.ServeTextFault.TheVariants as Faults
+use Rattle.ob_desk_serve.specs.declared.texts.ServeTextFault.{ServeTextFault}
+use Rattle.ob_desk_serve.specs.declared.texts.ServeTextFault.TheVariants as Faults
 use Rattle.ob_fault_lines.specs.ModuleFaultLines.{Text, no_memory_line}
 use Rattle.ob_fault_lines.specs.RunFaultLines.{run_fault_line}
 use Rattle.ob_object_compile.specs.Asked.{Beginning}

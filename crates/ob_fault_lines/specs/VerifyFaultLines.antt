@@ -1,9 +1,9 @@
 -- The line that tells why a record isn't verified.
 use Rattle.std.specs.Prelude.{◌++◌, codes}
-use Rattle.ob_object_order.specs.declared.order.OrderFault.{OrderFault}
-use Rattle.ob_object_order.specs.declared.order.OrderFault.TheVariants as Order
-use Rattle.ob_object_verify.specs.declared.verifying.VerifyFault.{VerifyFault}
-use Rattle.ob_object_verify.specs.declared.verifying.VerifyFault.TheVariants as Faults
+use Rattle.ob_object_run.specs.declared.order.OrderFault.{OrderFault}
+use Rattle.ob_object_run.specs.declared.order.OrderFault.TheVariants as Order
+use Rattle.ob_object_calls.specs.declared.verifying.VerifyFault.{VerifyFault}
+use Rattle.ob_object_calls.specs.declared.verifying.VerifyFault.TheVariants as Faults
 use Rattle.ob_text_record.specs.RecordText.{id_text}
 use Rattle.wf_history.specs.declared.event.CallId.{CallId}
 use Rattle.ob_fault_lines.specs.ModuleFaultLines.{Text, no_memory_line, open_line, text_line}

@@ -10,7 +10,7 @@ use crate::script_faults::push_line_number;
 use ob_object_compile::Beginning;
 use ob_object_draw::DrawRecordFault;
 use ob_object_perform::DrawFault;
-use ob_text_picture_chart::PictureFault;
+use ob_picture_chart::PictureFault;
 use ob_text_words::numbers::push_number;
 use std::alloc::{AllocError, Global};
 

@@ -4,8 +4,8 @@ ghost use Rattle.std.specs.Prelude.{◌≡◌, ◌++◌, OnErr, OnOk, string_byt
 ghost use Rattle.ob_fault_lines.specs.ModuleFaultLines.{at_place, open_line, parse_line, rule_line, rule_number, scan_line, text_line};
 ghost use Rattle.ob_text_words.specs.Appending.{GoesOn};
 
-use ob_check_text::TextFault;
-use ob_interpreter::opening::OpenFault;
+use ob_check::TextFault;
+use ob_mean::opening::OpenFault;
 use ob_parser::parser::ParseFault;
 use ob_scan::ScanFault;
 use ob_scan::scanner::LONGEST_TEXT;

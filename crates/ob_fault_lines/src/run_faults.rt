@@ -8,7 +8,7 @@ use crate::compile_faults::push_compile_fault;
 use crate::script_faults::push_script_fault;
 use ob_object_compile::Beginning;
 use ob_object_perform::PerformFault;
-use ob_schedule::ScheduleFault;
+use ob_text_words::ScheduleFault;
 use ob_text_words::numbers::push_number;
 use std::alloc::{AllocError, Global};
 

@@ -6,8 +6,8 @@ ghost use Rattle.ob_object_compile.specs.View.{beginning_of};
 
 use crate::compile_faults::push_compile_fault;
 use crate::script_faults::push_script_fault;
+use ob_object_calls::SeqTextFault;
 use ob_object_compile::Beginning;
-use ob_object_sequence::SeqTextFault;
 use std::alloc::{AllocError, Global};
 
 /// The line of a fault of a sequential run on an object that is to begin so, without a line feed.

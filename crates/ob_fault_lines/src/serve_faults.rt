@@ -5,9 +5,8 @@ ghost use Rattle.ob_fault_lines.specs.ServeFaultLines.{close_line, of_process, s
 ghost use Rattle.ob_object_compile.specs.View.{beginning_of};
 
 use crate::run_faults::push_run_fault;
-use ob_desk_lock::CloseFault;
-use ob_desk_serve::ServeFault;
-use ob_desk_texts::ServeTextFault;
+use ob_desk_floor::CloseFault;
+use ob_desk_serve::{ServeFault, ServeTextFault};
 use ob_object_compile::Beginning;
 use ob_text_words::numbers::push_number;
 use std::alloc::{AllocError, Global};

@@ -5,8 +5,8 @@ ghost use Rattle.ob_fault_lines.specs.VerifyFaultLines.{of_call, order_line, ver
 
 use crate::module_faults::{push_open_fault, push_text_fault};
 use crate::script_faults::push_line_number;
-use ob_object_order::OrderFault;
-use ob_object_verify::VerifyFault;
+use ob_object_calls::VerifyFault;
+use ob_object_run::OrderFault;
 use ob_text_record::push_id;
 use std::alloc::{AllocError, Global};
 use wf_history::CallId;

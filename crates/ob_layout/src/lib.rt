@@ -1,4 +1,16 @@
-//! The door of the layout: the words of a checked module's variables, of its procedures' frames and of its states.
+//! The layout of a checked module's words: of its types, of its variables in a block, and of its procedures' frames on a stack.
+//!
+//! One may rely on the clauses of the public functions, which name the words of ob_code_scheme.
 #![tactic(auto)]
 
-pub use ob_code_layout::{Layout, encode};
+mod decoding;
+mod encoding;
+pub mod frames;
+pub mod laws;
+pub mod layout;
+mod shapes;
+mod temporaries;
+
+pub use crate::{Layout, encode};
+pub use encoding::encode;
+pub use layout::Layout;

@@ -1,10 +1,25 @@
-//! The door of the source meaning: the opening of a checked module, one call on its state, and calls one after the other.
+//! The interpreter of the whole language: expressions, places, statements, calls from outside and the opening, by position; and how many
+//! turns of its budget a call takes.
+//!
+//! One may rely on the clauses of `opening`, `step`, `sequence` and `turns_in_turn`, which name the meaning of ob_meaning.
 #![tactic(auto)]
 
+pub mod begun;
+pub mod call;
+pub mod expressions;
+pub mod laws;
+pub mod object;
+pub mod opening;
+mod outside;
+pub mod places;
+pub mod sequence;
+pub mod statements;
+pub mod turns;
+
+pub use crate::call::{Call, Reply};
+pub use crate::object::interpret;
+pub use crate::opening::{OpenFault, opening};
+pub use crate::sequence::{SeqFault, sequence};
 pub use ob_interface::scalar::Scalar;
-pub use ob_interpreter::call::{Call, Reply};
-pub use ob_interpreter::object::interpret;
-pub use ob_interpreter::opening::{OpenFault, opening};
-pub use ob_interpreter::sequence::{SeqFault, sequence};
 pub use ob_store::state::State;
 pub use ob_store::value::Value;

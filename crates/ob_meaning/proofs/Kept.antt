@@ -6,12 +6,12 @@ use Rattle.std.proofs.lemmas.List.{length-set, length-append}
 use Rattle.ob_interface.specs.declared.scalar.Scalar.{Scalar}
 use Rattle.ob_typing.specs.Program.{Name, Variable, Expression, Statement, Assign, Call, If, While, Repeat, Statements, no_statement, statement, Branches, no_branch, otherwise, branch, Procedure, Program, exports}
 use Rattle.ob_typing.specs.Arithmetic.{Evaluated, Gives, Traps, truth_of, no_turn_left}
-use Rattle.ob_meaning.specs.Value.{Value, Single, SelectorValue}
-use Rattle.ob_meaning.specs.Store.{Place, Held, Binding, Holds, Activation, Store, IsValue, AreValues, names_of, activation_at, value_held, rebound, stored}
-use Rattle.ob_meaning.specs.Evaluation.{place_of, value_of, all_handed}
-use Rattle.ob_meaning.specs.Statements.{Outcome, Done, Trap, Run, Calls, after, then_run, with_turn, loop_once, loop, rounds_once, rounds, meaning, meaning_of_all, meaning_of_branches, begun, activation_of, left, activated, calls}
+use Rattle.ob_meaning.specs.ByNameValue.{Value, Single, SelectorValue}
+use Rattle.ob_meaning.specs.ByNameStore.{Place, Held, Binding, Holds, Activation, Store, IsValue, AreValues, names_of, activation_at, value_held, rebound, stored}
+use Rattle.ob_meaning.specs.ByNameEvaluation.{place_of, value_of, all_handed}
+use Rattle.ob_meaning.specs.ByNameStatements.{Outcome, Done, Trap, Run, Calls, after, then_run, with_turn, loop_once, loop, rounds_once, rounds, meaning, meaning_of_all, meaning_of_branches, begun, activation_of, left, activated, calls}
 use Rattle.ob_interface.specs.Call.{ObjectCall}
-use Rattle.ob_meaning.specs.Object.{State, HasVariables, results_begun, outside_handed, effect_of, most_turns, most_activations, effect_of_procedure, effect, opening, IsOpening}
+use Rattle.ob_meaning.specs.ByNameObject.{State, HasVariables, results_begun, outside_handed, effect_of, most_turns, most_activations, effect_of_procedure, effect, opening, IsOpening}
 
 names_if : (t : Bool) (v : Value) (b : Binding) → (if t then record b { held = Holds v } else b).name ≡ b.name
 names_if true v b = refl
@@ -21,7 +21,7 @@ names_rebound : (name : Name) (path : List SelectorValue) (v : Value) (bindings 
     names_of (map (rebound name path v) bindings) ≡ names_of bindings
 names_rebound name path v [] = refl
 names_rebound name path v (b ∷ bindings) =
-    let first = names_if (bytes_eq b.name name) (Rattle.ob_meaning.specs.Value.replaced (value_held b.held) path v) b in
+    let first = names_if (bytes_eq b.name name) (Rattle.ob_meaning.specs.ByNameValue.replaced (value_held b.held) path v) b in
     let others = names_rebound name path v bindings in
     cc
 

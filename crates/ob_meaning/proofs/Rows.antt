@@ -9,11 +9,11 @@ use Rattle.ob_typing.specs.declared.operator.BinaryOperator.TheVariants.{Plus, M
 use Rattle.ob_typing.specs.declared.operator.Relation.TheVariants.{Equal, Less, Greater}
 use Rattle.ob_typing.specs.Program
 use Rattle.ob_typing.specs.Program.{Name, DataType, Simple, Array, OfModule, Own, Expression, Literal, ValueOf, Negated, Computed, Compared, no_operation, operation, Designator, Designated, no_selector, element_of, Actual, ByValue, ByPlace, Statement, Assign, Call, If, While, Repeat, Statements, no_statement, statement, no_branch, branch, Parameter, Variable, Procedure}
-use Rattle.ob_meaning.specs.Value.{Single, Elements, no_value, value}
-use Rattle.ob_meaning.specs.Store.{Holds}
-use Rattle.ob_meaning.specs.Statements.{Done, Trap, begun}
+use Rattle.ob_meaning.specs.ByNameValue.{Single, Elements, no_value, value}
+use Rattle.ob_meaning.specs.ByNameStore.{Holds}
+use Rattle.ob_meaning.specs.ByNameStatements.{Done, Trap, begun}
 use Rattle.ob_interface.specs.Call.{ObjectCall, Reply, Answers, Trapped}
-use Rattle.ob_meaning.specs.Object.{State, Effect, effect, most_turns, opening, replies_to, state_behind}
+use Rattle.ob_meaning.specs.ByNameObject.{State, Effect, effect, most_turns, opening, replies_to, state_behind}
 
 -- Shorthands for programs.
 

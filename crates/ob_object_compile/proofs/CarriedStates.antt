@@ -1,7 +1,7 @@
 -- A carried state is one of the module's states by position: each variable has a value of its type.
 use Rattle.std.proofs.Common.{◌≡◌, ℕ, zero, suc, List, [], ◌∷◌, map, subst}
-use Rattle.ob_agreement.specs.Resolved.{IsResolved, as_parameter, module_scope}
-use Rattle.ob_agreement.specs.Same.{SameActivation, SameElements, SameFields, SameHeld, SameState, SameValue, Scopes}
+use Rattle.ob_meaning.specs.Resolved.{IsResolved, as_parameter, module_scope}
+use Rattle.ob_meaning.specs.Same.{SameActivation, SameElements, SameFields, SameHeld, SameState, SameValue, Scopes}
 use Rattle.ob_carry.proofs.Carried.{carried_values}
 use Rattle.ob_carry.specs.Carried.{AreCarriable, AreValuesOf, Entry, IsHeldOf, carried}
 use Rattle.ob_carry.specs.Values as Given
@@ -10,11 +10,11 @@ use Rattle.ob_interface.specs.declared.scalar.Scalar.{Scalar}
 use Rattle.ob_interface.specs.declared.scalar.Scalar.TheVariants as Scalars
 use Rattle.ob_interface.specs.declared.scalar.ScalarType.{ScalarType}
 use Rattle.ob_interface.specs.declared.scalar.ScalarType.TheVariants.{Integer, Boolean}
-use Rattle.ob_meaning.specs.Object as Objects
-use Rattle.ob_meaning.specs.Store as Names
-use Rattle.ob_meaning.specs.Value as Named
-use Rattle.ob_positions.specs.Store.{Activation, Held, Holds, Refers}
-use Rattle.ob_positions.specs.Value.{Value, Values, Single, Parts, no_part, part}
+use Rattle.ob_meaning.specs.ByNameObject as Objects
+use Rattle.ob_meaning.specs.ByNameStore as Names
+use Rattle.ob_meaning.specs.ByNameValue as Named
+use Rattle.ob_meaning.specs.ByPositionStore.{Activation, Held, Holds, Refers}
+use Rattle.ob_meaning.specs.ByPositionValue.{Value, Values, Single, Parts, no_part, part}
 use Rattle.ob_typing.specs.Program.{DataType, Simple, Array, Record, Fields, no_field, field, Variable, Program}
 
 scalar_typed : (t : ScalarType) (s : Scalar) → Given.IsScalarOf t s → IsScalarOf t s

@@ -1,17 +1,17 @@
 -- A compilation, from what its parts are.
 use Rattle.std.proofs.Common.{◌≡◌, ℕ, ◌<◌, ◌≤◌, Bool, refl, subst, sym}
-use Rattle.ob_code_law.specs.CodeMeaning.{EngineParts}
-use Rattle.ob_code_law.specs.Compiled.{parts_of}
-use Rattle.ob_code_layout.specs.Layout.{LayoutParts, layout_of}
+use Rattle.ob_code_correct.specs.CodeMeaning.{EngineParts}
+use Rattle.ob_code_correct.specs.Compiled.{parts_of}
+use Rattle.ob_layout.specs.Layout.{LayoutParts, layout_of}
 use Rattle.ob_grammar.specs.Texts.{IsTextOf}
 use Rattle.ob_grammar.specs.Tree
 use Rattle.ob_interface.specs.Processes.{most_processes}
-use Rattle.ob_meaning.specs.Object.{most_turns}
+use Rattle.ob_meaning.specs.ByNameObject.{most_turns}
 use Rattle.ob_object_compile.specs.Asked.{Asked, is_carried}
 use Rattle.ob_object_compile.specs.Compilation.{IsObjectOf, ObjectParts}
 use Rattle.ob_object_compile.specs.CompilationParts.{BeginsByPosition}
 use Rattle.ob_object_compile.proofs.Openings.{begins_named, module_resolved}
-use Rattle.ob_positions.specs.Store.{Activation}
+use Rattle.ob_meaning.specs.ByPositionStore.{Activation}
 use Rattle.ob_typing.specs.ModuleText.{IsModule}
 use Rattle.ob_typing.specs.Program.{Program}
 

@@ -1,18 +1,18 @@
 -- What the faults of a compilation say, from what those of its parts say.
 use Rattle.std.proofs.Common.{◌≡◌, ◌≢◌, ℕ, ◌<◌, List, length, true, false, subst, refl, arith}
-use Rattle.ob_agreement.specs.Resolved.{IsResolved}
+use Rattle.ob_meaning.specs.Resolved.{IsResolved}
 use Rattle.ob_object_compile.proofs.CarryFaults.{carriable_have_no_fault}
 use Rattle.ob_carry.specs.declared.carrying.CarryFault.{CarryFault}
 use Rattle.ob_carry.specs.declared.carrying.CarryFault.TheVariants as Carry
-use Rattle.ob_check_text.specs.CheckedText.{IsNumberedText, IsTextFault, TellsTextMemoryApart}
-use Rattle.ob_check_text.specs.declared.checked_text.TextFault.{TextFault}
-use Rattle.ob_check_text.specs.declared.checked_text.TextFault.TheVariants as Text
+use Rattle.ob_check.specs.CheckedText.{IsNumberedText, IsTextFault, TellsTextMemoryApart}
+use Rattle.ob_check.specs.declared.checked_text.TextFault.{TextFault}
+use Rattle.ob_check.specs.declared.checked_text.TextFault.TheVariants as Text
 use Rattle.ob_code_scheme.specs.Scheme.{code_of}
-use Rattle.ob_interpreter.specs.declared.opening.OpenFault.{OpenFault}
-use Rattle.ob_interpreter.specs.declared.opening.OpenFault.TheVariants as Open
+use Rattle.ob_mean.specs.declared.opening.OpenFault.{OpenFault}
+use Rattle.ob_mean.specs.declared.opening.OpenFault.TheVariants as Open
 use Rattle.ob_object_compile.specs.Asked.{Asked, Beginning, BeginsWith, ByBody, ByValues}
-use Rattle.ob_meaning.specs.Object as Named
-use Rattle.ob_meaning.specs.Object.{State}
+use Rattle.ob_meaning.specs.ByNameObject as Named
+use Rattle.ob_meaning.specs.ByNameObject.{State}
 use Rattle.ob_object_compile.specs.Compilation.{BodyFails, HasNone, IsNumbered, IsObjectFault, IsObjectOf, IsRefusal, IsShort, ObjectParts, OpeningFails, TellsMemoryApart, ValuesFail, most_instructions}
 use Rattle.ob_object_compile.specs.CompilationParts.{IsBeginningFault, IsBodyFault, IsEngineFault, IsValuesFault, of_text}
 use Rattle.ob_object_compile.specs.declared.compiling.CompileFault.{CompileFault}

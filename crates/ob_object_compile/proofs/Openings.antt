@@ -3,26 +3,26 @@ use Rattle.std.proofs.Common.{◌≡◌, refl, ap, subst, ◌∙◌, ℕ, List, 
 use Rattle.ob_carry.proofs.Carried.{one_state}
 use Rattle.ob_object_compile.proofs.CarriedStates.{carried_state_typed}
 use Rattle.ob_carry.specs.Carried.{carried}
-use Rattle.ob_code_kept.specs.Kept.{OpeningsAreStates}
+use Rattle.ob_code_correct.specs.Kept.{OpeningsAreStates}
 use Rattle.ob_code_scheme.specs.Types.{IsStateOf}
 use Rattle.ob_code_scheme.specs.WellFormed.{IsWellFormed}
-use Rattle.ob_agreement.proofs.ResolvedModules.{resolved}
-use Rattle.ob_agreement.proofs.SameStatements.{opening_same}
-use Rattle.ob_agreement.specs.Resolved.{module_scope, IsResolved}
-use Rattle.ob_agreement.specs.Same.{SameOutcome, SameState}
-use Rattle.ob_interpreter.specs.Faults.{IsOpenFault}
-use Rattle.ob_interpreter.specs.Sequences as Positions
-use Rattle.ob_interpreter.specs.declared.opening.OpenFault.{OpenFault}
-use Rattle.ob_interpreter.specs.declared.opening.OpenFault.TheVariants as Open
-use Rattle.ob_meaning.specs.Object as Objects
-use Rattle.ob_meaning.specs.Object.{State, most_turns}
-use Rattle.ob_meaning.specs.Statements as Meanings
+use Rattle.ob_meaning.proofs.ResolvedModules.{resolved}
+use Rattle.ob_meaning.proofs.SameStatements.{opening_same}
+use Rattle.ob_meaning.specs.Resolved.{module_scope, IsResolved}
+use Rattle.ob_meaning.specs.Same.{SameOutcome, SameState}
+use Rattle.ob_mean.specs.Faults.{IsOpenFault}
+use Rattle.ob_mean.specs.Sequences as Positions
+use Rattle.ob_mean.specs.declared.opening.OpenFault.{OpenFault}
+use Rattle.ob_mean.specs.declared.opening.OpenFault.TheVariants as Open
+use Rattle.ob_meaning.specs.ByNameObject as Objects
+use Rattle.ob_meaning.specs.ByNameObject.{State, most_turns}
+use Rattle.ob_meaning.specs.ByNameStatements as Meanings
 use Rattle.ob_object_compile.specs.Asked.{Beginning, BeginsWith, ByBody, ByValues}
 use Rattle.ob_object_compile.specs.Compilation.{OpeningFails, Opens}
 use Rattle.ob_object_compile.specs.CompilationParts.{BeginsByPosition}
-use Rattle.ob_positions.specs.Object as ObjectsByPosition
-use Rattle.ob_positions.specs.Statements.{Outcome, Done, Trap}
-use Rattle.ob_positions.specs.Store.{Activation}
+use Rattle.ob_meaning.specs.ByPositionObject as ObjectsByPosition
+use Rattle.ob_meaning.specs.ByPositionStatements.{Outcome, Done, Trap}
+use Rattle.ob_meaning.specs.ByPositionStore.{Activation}
 use Rattle.ob_typing.specs.ModuleText.{IsModule}
 use Rattle.ob_typing.specs.Program.{Program}
 

@@ -3,23 +3,23 @@ use Rattle.std.specs.Prelude.{◌≡◌, ◌≢◌, ℕ, ◌<◌, ◌≤◌, ◌
 use Rattle.ob_carry.specs.Carried.{IsCarryFault}
 use Rattle.ob_carry.specs.declared.carrying.CarryFault.{CarryFault}
 use Rattle.ob_carry.specs.declared.carrying.CarryFault.TheVariants as Carry
-use Rattle.ob_agreement.specs.Same.{SameState}
-use Rattle.ob_check_text.specs.CheckedText.{IsNumberedText, IsTextFault}
-use Rattle.ob_code_law.specs.CodeMeaning.{EngineParts}
-use Rattle.ob_code_law.specs.Compiled.{parts_of}
-use Rattle.ob_code_layout.specs.Layout.{LayoutParts, layout_of}
+use Rattle.ob_meaning.specs.Same.{SameState}
+use Rattle.ob_check.specs.CheckedText.{IsNumberedText, IsTextFault}
+use Rattle.ob_code_correct.specs.CodeMeaning.{EngineParts}
+use Rattle.ob_code_correct.specs.Compiled.{parts_of}
+use Rattle.ob_layout.specs.Layout.{LayoutParts, layout_of}
 use Rattle.ob_code_scheme.specs.Scheme.{code_of}
 use Rattle.ob_grammar.specs.Texts.{IsTextOf}
 use Rattle.ob_grammar.specs.Tree
 use Rattle.ob_interface.specs.Processes.{most_processes}
-use Rattle.ob_interpreter.specs.declared.opening.OpenFault.{OpenFault}
-use Rattle.ob_interpreter.specs.declared.opening.OpenFault.TheVariants as Open
-use Rattle.ob_meaning.specs.Object as Named
-use Rattle.ob_meaning.specs.Object.{most_turns}
+use Rattle.ob_mean.specs.declared.opening.OpenFault.{OpenFault}
+use Rattle.ob_mean.specs.declared.opening.OpenFault.TheVariants as Open
+use Rattle.ob_meaning.specs.ByNameObject as Named
+use Rattle.ob_meaning.specs.ByNameObject.{most_turns}
 use Rattle.ob_object_compile.specs.Asked.{Asked, Beginning, BeginsWith, ByBody, ByValues, is_carried}
 use Rattle.ob_object_compile.specs.declared.compiling.CompileFault.{CompileFault}
 use Rattle.ob_object_compile.specs.declared.compiling.CompileFault.TheVariants as Faults
-use Rattle.ob_positions.specs.Store.{Activation}
+use Rattle.ob_meaning.specs.ByPositionStore.{Activation}
 use Rattle.ob_typing.specs.ModuleText.{IsModule}
 use Rattle.ob_typing.specs.Program.{Program}
 

@@ -1,23 +1,23 @@
 -- The faults of the parts of a compilation.
 use Rattle.std.specs.Prelude.{◌≢◌, ◌<◌, length}
-use Rattle.ob_agreement.specs.Same.{SameState}
+use Rattle.ob_meaning.specs.Same.{SameState}
 use Rattle.ob_carry.specs.Carried.{AreCarriable, IsCarryFault, carried}
 use Rattle.ob_carry.specs.declared.carrying.CarryFault.{CarryFault}
 use Rattle.ob_carry.specs.declared.carrying.CarryFault.TheVariants as Carry
-use Rattle.ob_check_text.specs.declared.checked_text.TextFault.{TextFault}
-use Rattle.ob_check_text.specs.declared.checked_text.TextFault.TheVariants as Text
+use Rattle.ob_check.specs.declared.checked_text.TextFault.{TextFault}
+use Rattle.ob_check.specs.declared.checked_text.TextFault.TheVariants as Text
 use Rattle.ob_code_machine.specs.declared.fault.CodeFault.{CodeFault}
 use Rattle.ob_code_machine.specs.declared.fault.CodeFault.TheVariants as Code
 use Rattle.ob_code_scheme.specs.Scheme.{code_of}
-use Rattle.ob_interpreter.specs.Faults.{IsOpenFault}
-use Rattle.ob_interpreter.specs.Sequences.{IsOpening}
-use Rattle.ob_interpreter.specs.declared.opening.OpenFault.{OpenFault}
-use Rattle.ob_interpreter.specs.declared.opening.OpenFault.TheVariants as Open
+use Rattle.ob_mean.specs.Faults.{IsOpenFault}
+use Rattle.ob_mean.specs.Sequences.{IsOpening}
+use Rattle.ob_mean.specs.declared.opening.OpenFault.{OpenFault}
+use Rattle.ob_mean.specs.declared.opening.OpenFault.TheVariants as Open
 use Rattle.ob_object_compile.specs.Asked.{Beginning, ByBody, ByValues}
 use Rattle.ob_object_compile.specs.Compilation.{most_instructions}
 use Rattle.ob_object_compile.specs.declared.compiling.CompileFault.{CompileFault}
 use Rattle.ob_object_compile.specs.declared.compiling.CompileFault.TheVariants as Faults
-use Rattle.ob_positions.specs.Store.{Activation}
+use Rattle.ob_meaning.specs.ByPositionStore.{Activation}
 use Rattle.ob_typing.specs.Program.{Program}
 
 -- why a program has no engine

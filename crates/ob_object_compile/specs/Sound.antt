@@ -1,8 +1,8 @@
 -- What a run needs of an object.
 use Rattle.std.specs.Prelude.{◌≡◌}
-use Rattle.ob_agreement.specs.Resolved.{IsResolved}
-use Rattle.ob_code_law.specs.Compiled.{parts_of}
-use Rattle.ob_code_layout.specs.Layout.{layout_of}
+use Rattle.ob_meaning.specs.Resolved.{IsResolved}
+use Rattle.ob_code_correct.specs.Compiled.{parts_of}
+use Rattle.ob_layout.specs.Layout.{layout_of}
 use Rattle.ob_code_scheme.specs.Types.{IsStateOf}
 use Rattle.ob_code_scheme.specs.WellFormed.{IsWellFormed}
 use Rattle.ob_object_compile.specs.Asked.{Asked}

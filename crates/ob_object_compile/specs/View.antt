@@ -3,8 +3,8 @@
 use Rattle.std.specs.Prelude.{map}
 use Rattle.ob_carry.specs.View.{entries_of}
 use Rattle.ob_checked.specs.CheckedModule.{program_in, tree_in}
-use Rattle.ob_code_law.specs.Compiled as Compiled
-use Rattle.ob_code_layout.specs.Layout.{parts_of}
+use Rattle.ob_code_correct.specs.Compiled as Compiled
+use Rattle.ob_layout.specs.Layout.{parts_of}
 use Rattle.ob_object_compile.specs.Asked as Asking
 use Rattle.ob_object_compile.specs.Compilation.{ObjectParts}
 use Rattle.ob_object_compile.specs.declared.asked.Asked.{Asked}

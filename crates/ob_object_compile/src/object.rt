@@ -2,7 +2,7 @@
 
 use ob_checked::checked::Checked;
 use ob_code_engine::CodeEngine;
-use ob_code_layout::Layout;
+use ob_layout::Layout;
 use ob_store::state::State;
 
 /// What a text was compiled to, for so many processes and with a budget of turns for each call: the checked module, its layout,
@@ -20,7 +20,7 @@ pub struct Object {
 impl Object {
     ghost use Rattle.std.specs.Prelude.{◌≡◌};
     ghost use Rattle.ob_checked.specs.CheckedModule.{program_in, tree_in};
-    ghost use Rattle.ob_code_layout.specs.Layout.{parts_of};
+    ghost use Rattle.ob_layout.specs.Layout.{parts_of};
     ghost use Rattle.ob_object_compile.specs.View.{object_in};
     ghost use Rattle.ob_store.specs.View.{state_of};
 

@@ -12,9 +12,9 @@ ghost use Rattle.ob_typing.specs.Program.{Program};
 use crate::asked::Asked;
 use crate::compiling::{CompileFault, MOST_BUDGET, is_carried, opening_of};
 use crate::tree_object::TreeObject;
-use ob_check_text::checked_text::checked_text;
-use ob_code_layout::Layout;
+use ob_check::checked_text::checked_text;
 use ob_interface::MOST_PROCESSES;
+use ob_layout::Layout;
 use std::alloc::Global;
 
 /// The object that is asked for over the module's tree, as `compile_asked` gives it over code. No code is made, so it may have any

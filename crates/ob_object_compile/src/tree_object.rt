@@ -1,7 +1,7 @@
 //! The object of a module's text over the module's tree: no code is made.
 
 use ob_checked::checked::Checked;
-use ob_code_layout::Layout;
+use ob_layout::Layout;
 use ob_store::state::State;
 
 /// What a text was compiled to without code, for so many processes and with a budget of turns for each call: the checked module,
@@ -19,8 +19,8 @@ pub struct TreeObject {
 impl TreeObject {
     ghost use Rattle.std.specs.Prelude.{◌≡◌};
     ghost use Rattle.ob_checked.specs.CheckedModule.{program_in, tree_in};
-    ghost use Rattle.ob_code_law.specs.Compiled as Compiled;
-    ghost use Rattle.ob_code_layout.specs.Layout.{parts_of};
+    ghost use Rattle.ob_code_correct.specs.Compiled as Compiled;
+    ghost use Rattle.ob_layout.specs.Layout.{parts_of};
     ghost use Rattle.ob_object_compile.specs.View.{tree_object_in};
     ghost use Rattle.ob_store.specs.View.{state_of};
 

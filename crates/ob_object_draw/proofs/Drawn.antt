@@ -4,12 +4,12 @@ use Rattle.ob_interface.specs.Export.{Signature}
 use Rattle.ob_object_draw.specs.Marks.{IsCallMarked, id_of, marks_of}
 use Rattle.ob_object_draw.specs.RecordPictures.{IsDrawn, moments_of}
 use Rattle.ob_object_draw.specs.declared.marking.Marked.{Marked}
-use Rattle.ob_text_picture.specs.Shapes.{picture_text}
-use Rattle.ob_text_picture_chart.specs.Charts.{Chart, Mark, begun, chart_of_calls, marked}
-use Rattle.ob_text_picture_chart.specs.Faults.{MayBeShown}
-use Rattle.ob_text_picture_chart.specs.Moments.{Moment}
-use Rattle.ob_text_picture_chart.specs.declared.charts.CallRange.{CallRange}
-use Rattle.ob_text_record_reading.specs.RecordLines.{Told}
+use Rattle.ob_picture.specs.Shapes.{picture_text}
+use Rattle.ob_picture_chart.specs.Charts.{Chart, Mark, begun, chart_of_calls, marked}
+use Rattle.ob_picture_chart.specs.Faults.{MayBeShown}
+use Rattle.ob_picture_chart.specs.Moments.{Moment}
+use Rattle.ob_picture_chart.specs.declared.charts.CallRange.{CallRange}
+use Rattle.ob_text_reading.specs.RecordLines.{Told}
 
 pub drawn : (names given : List Signature) (tells : Told) (mark : Option Mark) (calls : Option CallRange) (seen : List Moment) (chart : Chart) (output : List ℕ) →
     given ≡ names → seen ≡ moments_of tells → chart ≡ chart_of_calls tells.processes seen tells.order calls → MayBeShown (length (begun seen)) calls →

@@ -1,14 +1,14 @@
 -- What faults say of both texts.
 use Rattle.std.proofs.Common.{ℕ, List, Option, length}
 use Rattle.ob_object_draw.specs.RecordPictures.{IsDrawRecordFault, moments_of, of_picture, of_record}
-use Rattle.ob_text_picture_chart.specs.Charts.{begun}
-use Rattle.ob_text_picture_chart.specs.Faults.{IsRangeFault}
-use Rattle.ob_text_picture_chart.specs.declared.charts.CallRange.{CallRange}
-use Rattle.ob_text_picture_chart.specs.declared.fault.PictureFault.{PictureFault}
-use Rattle.ob_text_picture_chart.specs.declared.fault.PictureFault.TheVariants as Pictures
-use Rattle.ob_text_record_reading.specs.RecordLines.{IsRecord, IsRecordFault, Told}
-use Rattle.ob_text_record_reading.specs.declared.reading.RecordFault.{RecordFault}
-use Rattle.ob_text_record_reading.specs.declared.reading.RecordFault.TheVariants as Record
+use Rattle.ob_picture_chart.specs.Charts.{begun}
+use Rattle.ob_picture_chart.specs.Faults.{IsRangeFault}
+use Rattle.ob_picture_chart.specs.declared.charts.CallRange.{CallRange}
+use Rattle.ob_picture_chart.specs.declared.fault.PictureFault.{PictureFault}
+use Rattle.ob_picture_chart.specs.declared.fault.PictureFault.TheVariants as Pictures
+use Rattle.ob_text_reading.specs.RecordLines.{IsRecord, IsRecordFault, Told}
+use Rattle.ob_text_reading.specs.declared.record_reading.RecordFault.{RecordFault}
+use Rattle.ob_text_reading.specs.declared.record_reading.RecordFault.TheVariants as Record
 use Rattle.ob_typing.specs.ModuleText.{IsModule}
 use Rattle.ob_typing.specs.Program.{Program}
 

@@ -1,8 +1,8 @@
 -- A record is one of no more processes than an object has.
 use Rattle.std.proofs.Common.{ℕ, List, Option, ◌≤◌}
 use Rattle.ob_interface.specs.Processes.{most_processes}
-use Rattle.ob_positions.specs.Store.{Activation}
-use Rattle.ob_text_record_reading.specs.RecordLines.{IsCount, IsHead, IsRecordOf, Line, Told, count, of_version_1, of_version_2, of_version_3}
+use Rattle.ob_meaning.specs.ByPositionStore.{Activation}
+use Rattle.ob_text_reading.specs.RecordLines.{IsCount, IsHead, IsRecordOf, Line, Told, count, of_version_1, of_version_2, of_version_3}
 use Rattle.ob_typing.specs.Program.{Program, Variable}
 
 count_few : (line : Line) (n : ℕ) → IsCount line n → n ≤ most_processes

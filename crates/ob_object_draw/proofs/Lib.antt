@@ -1,5 +1,12 @@
-pub mod Few
+pub mod Alone
+pub mod Charted
+pub mod Crossed
 pub mod Drawn
-pub mod Refused
 pub mod Faults
+pub mod Few
 pub mod NoPicture
+pub mod Parted
+pub mod Pictured
+pub mod Refused
+pub mod Seen
+pub mod Told

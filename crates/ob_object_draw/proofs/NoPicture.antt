@@ -1,18 +1,18 @@
 -- With a fault that has a number the texts have no picture.
 use Rattle.std.proofs.Common.{◌≡◌, ◌≢◌, ℕ, List, Option, Some, None, length, inl, inr, refl, subst, arith}
-use Rattle.ob_check_text.specs.CheckedText.{IsNumberedText}
-use Rattle.ob_check_text.specs.declared.checked_text.TextFault.{TextFault}
-use Rattle.ob_check_text.specs.declared.checked_text.TextFault.TheVariants as Text
+use Rattle.ob_check.specs.CheckedText.{IsNumberedText}
+use Rattle.ob_check.specs.declared.checked_text.TextFault.{TextFault}
+use Rattle.ob_check.specs.declared.checked_text.TextFault.TheVariants as Text
 use Rattle.ob_object_draw.specs.RecordPictures.{HasNoPicture, IsNumbered, IsRecordPicture, moments_of, of_picture, of_record, of_text}
-use Rattle.ob_text_picture_chart.specs.Charts.{begun}
-use Rattle.ob_text_picture_chart.specs.Faults.{IsRangeFault, MayBeShown}
-use Rattle.ob_text_picture_chart.specs.Moments.{Moment}
-use Rattle.ob_text_picture_chart.specs.declared.charts.CallRange.{CallRange}
-use Rattle.ob_text_picture_chart.specs.declared.fault.PictureFault.{PictureFault}
-use Rattle.ob_text_picture_chart.specs.declared.fault.PictureFault.TheVariants as Pictures
-use Rattle.ob_text_record_reading.specs.RecordLines.{IsRecord, IsRecordFault, Told}
-use Rattle.ob_text_record_reading.specs.declared.reading.RecordFault.{RecordFault}
-use Rattle.ob_text_record_reading.specs.declared.reading.RecordFault.TheVariants as Record
+use Rattle.ob_picture_chart.specs.Charts.{begun}
+use Rattle.ob_picture_chart.specs.Faults.{IsRangeFault, MayBeShown}
+use Rattle.ob_picture_chart.specs.Moments.{Moment}
+use Rattle.ob_picture_chart.specs.declared.charts.CallRange.{CallRange}
+use Rattle.ob_picture_chart.specs.declared.fault.PictureFault.{PictureFault}
+use Rattle.ob_picture_chart.specs.declared.fault.PictureFault.TheVariants as Pictures
+use Rattle.ob_text_reading.specs.RecordLines.{IsRecord, IsRecordFault, Told}
+use Rattle.ob_text_reading.specs.declared.record_reading.RecordFault.{RecordFault}
+use Rattle.ob_text_reading.specs.declared.record_reading.RecordFault.TheVariants as Record
 use Rattle.ob_typing.specs.ModuleText.{IsModule}
 use Rattle.ob_typing.specs.Program.{Program}
 

@@ -1,21 +1,21 @@
 -- With a fault before one of its order a record has no picture.
 use Rattle.std.proofs.Common.{◌≡◌, ◌≢◌, ap, ℕ, List, Option, Some, None, ◌⊎◌, inl, inr, option_map, refl}
 use Rattle.std.proofs.lemmas.Bool.{both_ways}
-use Rattle.ob_check_text.specs.CheckedText.{IsNumberedText, is_text_memory}
-use Rattle.ob_check_text.specs.declared.checked_text.TextFault.{TextFault}
-use Rattle.ob_check_text.specs.declared.checked_text.TextFault.TheVariants as Text
-use Rattle.ob_interpreter.specs.declared.opening.OpenFault.TheVariants as Open
+use Rattle.ob_check.specs.CheckedText.{IsNumberedText, is_text_memory}
+use Rattle.ob_check.specs.declared.checked_text.TextFault.{TextFault}
+use Rattle.ob_check.specs.declared.checked_text.TextFault.TheVariants as Text
+use Rattle.ob_mean.specs.declared.opening.OpenFault.TheVariants as Open
 use Rattle.ob_object_draw.specs.Marks.{IsCallMarked, IsOf, of_verify}
 use Rattle.ob_object_draw.specs.RecordPictures.{HasNoPicture, IsRecordPicture, IsRefusal}
 use Rattle.ob_object_draw.specs.declared.drawing.DrawRecordFault.TheVariants as Faults
-use Rattle.ob_object_order.specs.declared.order.OrderFault.{OrderFault}
-use Rattle.ob_object_order.specs.declared.order.OrderFault.TheVariants as Order
-use Rattle.ob_object_verify.specs.Verified.{IsVerified}
-use Rattle.ob_object_verify.specs.VerifyFaults as Verifies
-use Rattle.ob_object_verify.specs.VerifyFaults.{IsFaultOfRecord, IsVerifyFault}
-use Rattle.ob_object_verify.specs.declared.verifying.VerifyFault.{VerifyFault}
-use Rattle.ob_object_verify.specs.declared.verifying.VerifyFault.TheVariants as Verify
-use Rattle.ob_text_picture_chart.specs.declared.charts.CallRange.{CallRange}
+use Rattle.ob_object_run.specs.declared.order.OrderFault.{OrderFault}
+use Rattle.ob_object_run.specs.declared.order.OrderFault.TheVariants as Order
+use Rattle.ob_object_calls.specs.Verified.{IsVerified}
+use Rattle.ob_object_calls.specs.VerifyFaults as Verifies
+use Rattle.ob_object_calls.specs.VerifyFaults.{IsFaultOfRecord, IsVerifyFault}
+use Rattle.ob_object_calls.specs.declared.verifying.VerifyFault.{VerifyFault}
+use Rattle.ob_object_calls.specs.declared.verifying.VerifyFault.TheVariants as Verify
+use Rattle.ob_picture_chart.specs.declared.charts.CallRange.{CallRange}
 use Rattle.wf_history.specs.declared.event.CallId.{CallId}
 
 -- a fault of a call is no want of memory

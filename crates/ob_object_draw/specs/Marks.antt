@@ -3,13 +3,13 @@ use Rattle.std.specs.Prelude.{◌≡◌, List, ℕ, Option, Some, None, option_m
 use Rattle.ob_object_draw.specs.declared.drawing.DrawRecordFault.{DrawRecordFault}
 use Rattle.ob_object_draw.specs.declared.drawing.DrawRecordFault.TheVariants as Faults
 use Rattle.ob_object_draw.specs.declared.marking.Marked.{Marked}
-use Rattle.ob_object_order.specs.declared.order.OrderFault.{OrderFault}
-use Rattle.ob_object_order.specs.declared.order.OrderFault.TheVariants as Order
-use Rattle.ob_object_verify.specs.Verified.{IsVerified}
-use Rattle.ob_object_verify.specs.VerifyFaults.{IsFaultOfRecord}
-use Rattle.ob_object_verify.specs.declared.verifying.VerifyFault.{VerifyFault}
-use Rattle.ob_object_verify.specs.declared.verifying.VerifyFault.TheVariants as Verify
-use Rattle.ob_text_picture_chart.specs.Charts.{Mark}
+use Rattle.ob_object_run.specs.declared.order.OrderFault.{OrderFault}
+use Rattle.ob_object_run.specs.declared.order.OrderFault.TheVariants as Order
+use Rattle.ob_object_calls.specs.Verified.{IsVerified}
+use Rattle.ob_object_calls.specs.VerifyFaults.{IsFaultOfRecord}
+use Rattle.ob_object_calls.specs.declared.verifying.VerifyFault.{VerifyFault}
+use Rattle.ob_object_calls.specs.declared.verifying.VerifyFault.TheVariants as Verify
+use Rattle.ob_picture_chart.specs.Charts.{Mark}
 use Rattle.wf_history.specs.declared.event.CallId.{CallId}
 
 -- the fault of an order is one of this call

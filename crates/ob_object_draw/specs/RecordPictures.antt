@@ -1,26 +1,26 @@
 -- What is drawn of a record, from the bytes of a module and of the record, and why there is no picture.
 use Rattle.std.specs.Prelude.{◌≡◌, ◌≢◌, ℕ, List, Option, length, option_map}
-use Rattle.ob_check_text.specs.CheckedText.{IsTextFault, TellsTextMemoryApart}
-use Rattle.ob_check_text.specs.declared.checked_text.TextFault.{TextFault}
-use Rattle.ob_check_text.specs.declared.checked_text.TextFault.TheVariants as Text
+use Rattle.ob_check.specs.CheckedText.{IsTextFault, TellsTextMemoryApart}
+use Rattle.ob_check.specs.declared.checked_text.TextFault.{TextFault}
+use Rattle.ob_check.specs.declared.checked_text.TextFault.TheVariants as Text
 use Rattle.ob_checked.specs.Exports.{signatures}
 use Rattle.ob_interface.specs.Export.{Signature}
-use Rattle.ob_interpreter.specs.declared.opening.OpenFault.TheVariants as Open
+use Rattle.ob_mean.specs.declared.opening.OpenFault.TheVariants as Open
 use Rattle.ob_object_draw.specs.Marks.{IsCallMarked}
 use Rattle.ob_object_draw.specs.declared.drawing.DrawRecordFault.{DrawRecordFault}
 use Rattle.ob_object_draw.specs.declared.drawing.DrawRecordFault.TheVariants as Faults
-use Rattle.ob_object_verify.specs.VerifyFaults.{IsVerifyFault}
-use Rattle.ob_object_verify.specs.declared.verifying.VerifyFault.TheVariants as Verify
-use Rattle.ob_text_picture.specs.Shapes.{picture_text}
-use Rattle.ob_text_picture_chart.specs.Charts.{Mark, begun, chart_of, marked, range_of}
-use Rattle.ob_text_picture_chart.specs.Faults.{IsRangeFault, MayBeShown}
-use Rattle.ob_text_picture_chart.specs.Moments.{Moment, placed_from}
-use Rattle.ob_text_picture_chart.specs.declared.charts.CallRange.{CallRange}
-use Rattle.ob_text_picture_chart.specs.declared.fault.PictureFault.{PictureFault}
-use Rattle.ob_text_picture_chart.specs.declared.fault.PictureFault.TheVariants as Pictures
-use Rattle.ob_text_record_reading.specs.RecordLines.{IsRecord, IsRecordFault, Told}
-use Rattle.ob_text_record_reading.specs.declared.reading.RecordFault.{RecordFault}
-use Rattle.ob_text_record_reading.specs.declared.reading.RecordFault.TheVariants as Record
+use Rattle.ob_object_calls.specs.VerifyFaults.{IsVerifyFault}
+use Rattle.ob_object_calls.specs.declared.verifying.VerifyFault.TheVariants as Verify
+use Rattle.ob_picture.specs.Shapes.{picture_text}
+use Rattle.ob_picture_chart.specs.Charts.{Mark, begun, chart_of, marked, range_of}
+use Rattle.ob_picture_chart.specs.Faults.{IsRangeFault, MayBeShown}
+use Rattle.ob_picture_chart.specs.Moments.{Moment, placed_from}
+use Rattle.ob_picture_chart.specs.declared.charts.CallRange.{CallRange}
+use Rattle.ob_picture_chart.specs.declared.fault.PictureFault.{PictureFault}
+use Rattle.ob_picture_chart.specs.declared.fault.PictureFault.TheVariants as Pictures
+use Rattle.ob_text_reading.specs.RecordLines.{IsRecord, IsRecordFault, Told}
+use Rattle.ob_text_reading.specs.declared.record_reading.RecordFault.{RecordFault}
+use Rattle.ob_text_reading.specs.declared.record_reading.RecordFault.TheVariants as Record
 use Rattle.ob_typing.specs.ModuleText.{IsModule}
 use Rattle.ob_typing.specs.Program.{Program}
 

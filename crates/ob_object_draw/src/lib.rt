@@ -1,7 +1,18 @@
-//! Pictures of records that were printed before. Where the order of a record is no legal one, the call of its fault is marked.
+//! Pictures of records that were printed before, where the call of a fault is marked; and of histories, by a legal order that is found, or up
+//! to the end with which there ceases to be one.
+//!
+//! One may rely on the clauses of the public functions, which are in the words of `specs/`.
 #![tactic(auto)]
 
 pub mod drawing;
+pub mod faults;
+pub mod forms;
 pub mod marking;
+pub mod parts;
+pub mod search_drawing;
+pub mod showing;
 
 pub use drawing::{DrawRecordFault, draw_record_text};
+pub use faults::DrawHistoryFault;
+pub use forms::is_record_form;
+pub use search_drawing::draw_history_text;

@@ -3,15 +3,15 @@
 ghost use Rattle.std.specs.Prelude.{◌≡◌, ◌<◌, Err, IfErr, IfOk, length, option_map};
 ghost use Rattle.ob_object_draw.specs.Marks.{IsCallMarked, IsOf, id_of, marks_of, of_verify};
 ghost use Rattle.ob_object_draw.specs.RecordPictures.{IsRefusal};
-ghost use Rattle.ob_text_picture_chart.specs.View as View;
+ghost use Rattle.ob_picture_chart.specs.ChartView as View;
 
 use crate::drawing::DrawRecordFault;
-use ob_check_text::checked_text::TextFault;
-use ob_object_order::OrderFault;
-use ob_object_verify::{VerifyFault, verify_text};
+use ob_check::checked_text::TextFault;
+use ob_object_calls::{VerifyFault, verify_text};
+use ob_object_run::OrderFault;
+use ob_picture_chart::Mark;
 use ob_scan::ScanFault;
 use ob_scan::scanner::LONGEST_TEXT;
-use ob_text_picture_chart::Mark;
 use std::alloc::{AllocError, Global};
 use wf_history::CallId;
 

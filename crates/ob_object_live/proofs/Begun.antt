@@ -8,10 +8,10 @@ use Rattle.ob_interface.specs.Export.{CallFits}
 use Rattle.ob_object_live.specs.Living.{Ground, IsAt, callers, events_behind, ground_of, order_behind, record_at, replies_at, state_at, title_of, told_text}
 use Rattle.ob_object_live.specs.declared.parts.Live.{Live}
 use Rattle.ob_store.specs.View.{state_of}
-use Rattle.ob_object_record.specs.Record.{carried_from}
-use Rattle.ob_positions.specs.Store.{Activation}
+use Rattle.ob_text_record.specs.Record.{carried_from}
+use Rattle.ob_meaning.specs.ByPositionStore.{Activation}
 use Rattle.ob_text_record.specs.RecordText.{carried_text, event_text, head_text, ids_text, record_text, title_text}
-use Rattle.ob_text_values.specs.Variables.{state_text}
+use Rattle.ob_text_record.specs.Variables.{state_text}
 use Rattle.ob_text_words.specs.ScriptCalls.{ScriptCall, object_call}
 
 pub uncalled : (g : Ground) (l : Live) → ground_of l.ground ≡ g → state_of l.state ≡ g.opening → l.made.items ≡ replicate g.processes 0 →

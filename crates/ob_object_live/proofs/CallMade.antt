@@ -11,11 +11,11 @@ use Rattle.ob_interface.specs.Export.{CallFits, Signature}
 use Rattle.ob_object_live.specs.Living.{Ground, IsAt, IsMore, OneMade, applied_text, behind, call_text, callers, count_of, end_text, events_alone, events_behind, ground_of, id_behind, lines_at, order_behind, replies_at, state_at}
 use Rattle.ob_object_live.specs.declared.parts.Live.{Live}
 use Rattle.ob_object_live.proofs.CallsBehind.{behind_more, callers_more, count_here, events_more, lines_more, order_more, reply_behind, state_more}
-use Rattle.ob_positions.specs.Object as Effects
-use Rattle.ob_positions.specs.Object.{effect}
+use Rattle.ob_meaning.specs.ByPositionObject as Effects
+use Rattle.ob_meaning.specs.ByPositionObject.{effect}
 use Rattle.ob_store.specs.View.{state_of}
 use Rattle.ob_text_record.specs.RecordText.{begin_text, event_text, id_text, ids_text}
-use Rattle.ob_reply.specs.ReplyLines.{reply_line}
+use Rattle.ob_text_words.specs.ReplyLines.{reply_line}
 use Rattle.ob_text_words.specs.ScriptCalls.{ScriptCall, object_call, script_call_of}
 use Rattle.ob_text_words.specs.declared.script_call.ScriptCall as Declared
 use Rattle.wf_history.specs.declared.event.CallId.{CallId}

@@ -2,10 +2,10 @@
 use Rattle.std.proofs.Common.{◌≡◌, ◌∙◌, ℕ, ◌+◌, List, [], ◌∷◌, ◌++◌, refl, sym, ap, append-nil, append_assoc, add-one}
 use Rattle.std.proofs.lemmas.Bool.{eq-eqb}
 use Rattle.ob_interface.specs.Call.{Reply}
-use Rattle.ob_interpreter.specs.Sequences.{replies_to}
+use Rattle.ob_mean.specs.Sequences.{replies_to}
 use Rattle.ob_object_live.specs.Living.{asked, behind, callers, count_of, end_text, events_alone, events_behind, id_behind, lines_behind, order_behind, state_after}
-use Rattle.ob_positions.specs.Object.{effect}
-use Rattle.ob_positions.specs.Store.{Activation}
+use Rattle.ob_meaning.specs.ByPositionObject.{effect}
+use Rattle.ob_meaning.specs.ByPositionStore.{Activation}
 use Rattle.ob_text_words.specs.ScriptCalls.{ScriptCall, object_call}
 use Rattle.ob_typing.specs.Program.{Program}
 

@@ -1,28 +1,28 @@
 -- What is told of an object's calls by position, by name.
 use Rattle.std.proofs.Common.{◌≡◌, ◌∙◌, ◌<◌, ℕ, suc, Bool, true, List, [], ◌∷◌, ◌++◌, map, All, refl, sym, ap, ap₂, subst, None, Some, Option}
 use Rattle.std.proofs.lemmas.List.Elements.{All-head, All-nil, All-tail}
-use Rattle.ob_agreement.specs.Resolved.{IsResolved}
-use Rattle.ob_agreement.specs.Same.{SameState}
-use Rattle.ob_agreement.proofs.SameCalls.{call_same}
+use Rattle.ob_meaning.specs.Resolved.{IsResolved}
+use Rattle.ob_meaning.specs.Same.{SameState}
+use Rattle.ob_meaning.proofs.SameCalls.{call_same}
 use Rattle.ob_checked.specs.Exports.{signatures}
-use Rattle.ob_code_law.specs.CodeMeaning.{EngineParts}
+use Rattle.ob_code_correct.specs.CodeMeaning.{EngineParts}
 use Rattle.ob_interface.specs.Call.{ObjectCall, Reply}
 use Rattle.ob_interface.specs.Export.{CallFits, Signature}
-use Rattle.ob_interpreter.specs.Sequences as Positions
+use Rattle.ob_mean.specs.Sequences as Positions
 use Rattle.ob_object_live.specs.Living.{Ground, IsAt, asked, callers, end_text, events_behind, id_behind, ground_of, lines_at, lines_behind, record_at, replies_at, state_after, state_at}
 use Rattle.ob_object_live.specs.declared.parts.Live.{Live}
 use Rattle.ob_object_live.specs.Talks.{AllFit, EndsOn, IsTalk, TalksOn, ends, made, refused}
-use Rattle.ob_meaning.specs.Object as Named
+use Rattle.ob_meaning.specs.ByNameObject as Named
 use Rattle.ob_object_compile.proofs.Openings.{module_resolved}
 use Rattle.ob_object_compile.specs.Asked.{Asked}
 use Rattle.ob_object_compile.specs.Compilation.{IsCompilation, ObjectParts}
 use Rattle.ob_object_live.specs.LiveParts.{BeginsAt, ground_at}
 use Rattle.ob_object_live.specs.LiveRuns.{IsLiveRun, IsRecordOf, IsRecordTold, seq_lines, state_behind}
-use Rattle.ob_object_sequence.specs.ReplyLines.{reply_lines, numbered}
-use Rattle.ob_object_sequence.proofs.Named.{replies_same}
-use Rattle.ob_positions.specs.Object as Effects
-use Rattle.ob_positions.specs.Store.{Activation}
-use Rattle.ob_reply.specs.ReplyLines.{reply_line}
+use Rattle.ob_object_calls.specs.ReplyLines.{reply_lines, numbered}
+use Rattle.ob_object_calls.proofs.Named.{replies_same}
+use Rattle.ob_meaning.specs.ByPositionObject as Effects
+use Rattle.ob_meaning.specs.ByPositionStore.{Activation}
+use Rattle.ob_text_words.specs.ReplyLines.{reply_line}
 use Rattle.ob_text_words.specs.ScriptCalls.{ScriptCall, object_call}
 use Rattle.ob_typing.specs.Program.{Program}
 

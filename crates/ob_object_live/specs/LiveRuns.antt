@@ -1,15 +1,15 @@
 -- The object of a module that is called as calls come, by what its procedures mean.
 use Rattle.std.specs.Prelude.{◌≡◌, ℕ, true, List, [], ◌∷◌}
-use Rattle.ob_agreement.specs.Same.{SameState}
+use Rattle.ob_meaning.specs.Same.{SameState}
 use Rattle.ob_checked.specs.Exports.{signatures}
 use Rattle.ob_interface.specs.Call.{ObjectCall}
 use Rattle.ob_object_live.specs.Living.{asked, callers, events_behind, order_behind, remarked}
 use Rattle.ob_object_live.specs.Talks.{IsTalk}
-use Rattle.ob_meaning.specs.Object as Named
+use Rattle.ob_meaning.specs.ByNameObject as Named
 use Rattle.ob_object_compile.specs.Asked.{Asked}
 use Rattle.ob_object_compile.specs.Compilation.{IsCompilation, ObjectParts}
-use Rattle.ob_object_record.specs.Record.{Record, carried_from}
-use Rattle.ob_object_sequence.specs.ReplyLines.{reply_lines}
+use Rattle.ob_text_record.specs.Record.{Record, carried_from}
+use Rattle.ob_object_calls.specs.ReplyLines.{reply_lines}
 use Rattle.ob_text_record.specs.RecordText.{record_text}
 use Rattle.ob_text_words.specs.ScriptCalls.{ScriptCall}
 use Rattle.ob_typing.specs.Program.{Program}

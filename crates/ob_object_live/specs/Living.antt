@@ -4,19 +4,19 @@ use Rattle.std.specs.List.{flat_map}
 use Rattle.ob_checked.specs.Exports.{signatures}
 use Rattle.ob_interface.specs.Call.{ObjectCall, Reply}
 use Rattle.ob_interface.specs.Export.{CallFits, Signature}
-use Rattle.ob_interpreter.specs.Sequences.{replies_to}
+use Rattle.ob_mean.specs.Sequences.{replies_to}
 use Rattle.ob_checked.specs.CheckedModule.{program_in}
 use Rattle.ob_object_live.specs.declared.parts.Ground as Rust
 use Rattle.ob_object_live.specs.declared.parts.Live.{Live}
 use Rattle.ob_object_live.specs.declared.parts.Told.{Told}
 use Rattle.ob_object_live.specs.declared.parts.Told.TheVariants.{Fault, Lines}
-use Rattle.ob_object_record.specs.Record.{Record, carried_from}
-use Rattle.ob_positions.specs.Object.{effect}
-use Rattle.ob_positions.specs.Store.{Activation}
-use Rattle.ob_reply.specs.ReplyLines.{reply_line}
+use Rattle.ob_text_record.specs.Record.{Record, carried_from}
+use Rattle.ob_meaning.specs.ByPositionObject.{effect}
+use Rattle.ob_meaning.specs.ByPositionStore.{Activation}
+use Rattle.ob_text_words.specs.ReplyLines.{reply_line}
 use Rattle.ob_store.specs.View.{state_of}
 use Rattle.ob_text_record.specs.RecordText.{begin_text, carried_text, event_text, head_text, id_text, ids_text}
-use Rattle.ob_text_values.specs.Variables.{state_text}
+use Rattle.ob_text_record.specs.Variables.{state_text}
 use Rattle.ob_text_scripts.specs.Script.{IsScript, IsScriptFault, SaysNone}
 use Rattle.ob_text_scripts.specs.declared.script.ScriptFault.{ScriptFault}
 use Rattle.ob_text_words.specs.ScriptCalls.{ScriptCall, object_call}

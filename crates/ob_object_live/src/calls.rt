@@ -2,20 +2,20 @@
 
 ghost use Rattle.std.specs.Prelude.{◌≡◌, ◌++◌, IfOk, OnErr, OnOk, codes, map, slice_get, string_bytes};
 ghost use Rattle.ob_interface.specs.View.{signature_of};
-ghost use Rattle.ob_interpreter.specs.View.{call_of, reply_of};
+ghost use Rattle.ob_mean.specs.View.{call_of, reply_of};
 ghost use Rattle.ob_object_live.specs.Living.{applied_text, call_text};
-ghost use Rattle.ob_reply.specs.ReplyLines.{reply_line};
+ghost use Rattle.ob_text_words.specs.ReplyLines.{reply_line};
 ghost use Rattle.ob_text_record.specs.RecordText.{begin_text, id_text, name_of, scalars_text};
 ghost use Rattle.ob_text_words.specs.Appending.{GoesOn};
 ghost use Rattle.ob_text_words.specs.ScriptCalls.{object_call, script_call_of};
 
 use ob_interface::export::Export;
 use ob_interface::scalar::Scalar;
-use ob_interpreter::call::{Call, Reply};
-use ob_reply::reply_lines::{push_done_line, push_trap_line};
+use ob_mean::call::{Call, Reply};
 use ob_text_record::push_id;
+use ob_text_words::reply_lines::{push_done_line, push_trap_line};
+use ob_text_words::scalar_words::push_value;
 use ob_text_words::script_call::ScriptCall;
-use ob_text_words::values::push_value;
 use std::alloc::{AllocError, Global};
 use wf_history::CallId;
 

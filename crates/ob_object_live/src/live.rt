@@ -11,7 +11,7 @@ use crate::calls::{call_asked, push_call, push_next, push_reply};
 use crate::parts::{Ground, Live, Told};
 use crate::record::write_record;
 use ob_interface::NoMemory;
-use ob_interpreter::object::step;
+use ob_mean::object::step;
 use ob_text_scripts::{ScriptFault, read_scripts};
 use ob_text_words::script_call::ScriptCall;
 use std::alloc::{AllocError, Global};

@@ -3,14 +3,14 @@
 ghost use Rattle.std.specs.Prelude.{◌≡◌, ◌++◌, IfOk, OnOk, codes, string_bytes, true};
 ghost use Rattle.ob_checked.specs.View.{program_of};
 ghost use Rattle.ob_object_live.specs.Living.{ground_of, remarked, title_of, told_text};
-ghost use Rattle.ob_object_record.specs.Record.{carried_from};
+ghost use Rattle.ob_text_record.specs.Record.{carried_from};
 ghost use Rattle.ob_store.specs.View.{state_of};
 ghost use Rattle.ob_text_record.specs.RecordText.{carried_text, head_text};
 
 use crate::parts::Ground;
 use ob_checked::program::Program;
 use ob_store::state::State;
-use ob_text_values::variables::{push_opening, push_state};
+use ob_text_record::variables::{push_opening, push_state};
 use ob_text_words::numbers::push_number;
 use std::alloc::{AllocError, Global};
 

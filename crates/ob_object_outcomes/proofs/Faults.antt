@@ -3,9 +3,9 @@ use Rattle.std.proofs.Common.{◌≡◌, ℕ, List, Option, refl}
 use Rattle.ob_object_compile.specs.Asked.{Asked}
 use Rattle.ob_object_outcomes.specs.OutcomesFaults.{HasMany, IsFaultHere, IsOutcomesFault, of_exploring, of_texts}
 use Rattle.ob_object_outcomes.specs.Scripted.{ScriptedParts}
-use Rattle.ob_object_sequence.specs.SequentialRun.{IsSeqRefusal}
-use Rattle.ob_object_sequence.specs.declared.sequential.SeqTextFault.{SeqTextFault}
-use Rattle.ob_object_sequence.specs.declared.sequential.SeqTextFault.TheVariants as Seq
+use Rattle.ob_object_calls.specs.SequentialRun.{IsSeqRefusal}
+use Rattle.ob_object_calls.specs.declared.sequential.SeqTextFault.{SeqTextFault}
+use Rattle.ob_object_calls.specs.declared.sequential.SeqTextFault.TheVariants as Seq
 use Rattle.ob_text_words.specs.Words.{Word}
 use Rattle.wf_outcomes.specs.declared.exploring.ExploreFault.{ExploreFault}
 use Rattle.wf_outcomes.specs.declared.exploring.ExploreFault.TheVariants as Explore

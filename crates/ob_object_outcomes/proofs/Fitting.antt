@@ -4,10 +4,10 @@ use Rattle.std.proofs.lemmas.List.Elements.{All-head, All-tail, All-nil, All-con
 use Rattle.std.specs.Prelude.{nat_eq}
 use Rattle.ob_interface.specs.Call.{ObjectCall}
 use Rattle.ob_interface.specs.Export.{CallFits, Signature, value_types}
-use Rattle.ob_object_outcomes.proofs.Simulated.{EachFits}
+use Rattle.ob_object_outcomes.proofs.OutcomesSimulated.{EachFits}
 use Rattle.ob_object_outcomes.specs.Questions.{IsQuestion, question_call}
 use Rattle.ob_object_outcomes.specs.Scripts.{calls_by, scripts_by}
-use Rattle.ob_text_exports.proofs.ExportSearch.{export_there}
+use Rattle.ob_text_words.proofs.ExportSearch.{export_there}
 use Rattle.ob_text_words.specs.ScriptCalls.{ScriptCall, object_call}
 use Rattle.wf_history.proofs.Positions.{contains_at}
 

@@ -1,8 +1,13 @@
-pub mod Asked
-pub mod Crossing
 pub mod Faults
 pub mod Fitting
-pub mod Named
+pub mod OutcomesAsked
+pub mod OutcomesCrossing
+pub mod OutcomesNamed
+pub mod OutcomesSimulated
 pub mod Owning
 pub mod Questions
-pub mod Simulated
+pub mod Steps
+pub mod WholesAsked
+pub mod WholesCrossing
+pub mod WholesNamed
+pub mod WholesSimulated

@@ -4,7 +4,7 @@ use Rattle.std.proofs.lemmas.Option.{same_Some}
 use Rattle.ob_interface.specs.Export.{Signature}
 use Rattle.ob_interface.specs.declared.scalar.ScalarType.TheVariants.{Boolean}
 use Rattle.ob_object_outcomes.specs.Questions.{IsQuestion}
-use Rattle.ob_text_exports.specs.ExportNames.{export_named}
+use Rattle.ob_text_words.specs.ExportNames.{export_named}
 
 module _ (signatures : List Signature) (name : List ℕ) where
   pub no_export : None ≡ export_named signatures name → (number : ℕ) → ¬ IsQuestion signatures name number

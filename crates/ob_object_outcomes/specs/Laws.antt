@@ -1,8 +1,8 @@
 -- What holds of all merges of calls on a module's object.
 use Rattle.std.specs.Prelude.{ℕ, List}
-use Rattle.ob_code_law.specs.Named.{CallMeans}
+use Rattle.ob_code_correct.specs.Named.{CallMeans}
 use Rattle.ob_interface.specs.Call.{ObjectCall}
-use Rattle.ob_meaning.specs.Object.{State}
+use Rattle.ob_meaning.specs.ByNameObject.{State}
 use Rattle.ob_typing.specs.Program.{Program}
 use Rattle.wf_outcomes.specs.Whole.{AreCompleted}
 

@@ -1,8 +1,12 @@
 pub mod Asking
 pub mod Laws
+pub mod OutcomeLines
 pub mod Outcomes
 pub mod OutcomesFaults
+pub mod OutcomesView
 pub mod Questions
 pub mod Scripted
 pub mod Scripts
-pub mod View
+pub mod Stories
+pub mod Wholes
+pub mod WholesView

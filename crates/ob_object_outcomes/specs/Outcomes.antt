@@ -1,16 +1,16 @@
 -- All outcomes of the calls of scripts on a module's object, from bytes: by what the calls mean by name.
 use Rattle.std.specs.Prelude.{ℕ, List}
-use Rattle.ob_agreement.specs.Same.{SameState}
+use Rattle.ob_meaning.specs.Same.{SameState}
 use Rattle.ob_checked.specs.Exports.{signatures}
-use Rattle.ob_code_law.specs.Named.{CallMeans}
+use Rattle.ob_code_correct.specs.Named.{CallMeans}
 use Rattle.ob_object_compile.specs.Asked.{Asked}
-use Rattle.ob_object_order.specs.LegalOrder.{CallEnds}
+use Rattle.ob_object_run.specs.LegalOrder.{CallEnds}
 use Rattle.ob_object_outcomes.specs.Questions.{Holds, IsQuestion}
 use Rattle.ob_object_outcomes.specs.Scripted.{ScriptedParts, IsScripted}
-use Rattle.ob_object_outcomes.specs.View.{Outcomes}
+use Rattle.ob_object_outcomes.specs.OutcomesView.{Outcomes}
 use Rattle.ob_text_words.specs.Words.{Word}
 use Rattle.wf_outcomes.specs.Outcomes.{AlwaysGood}
-use Rattle.wf_told.specs.Told.{AreOutcomes, IsItself}
+use Rattle.wf_outcomes.specs.Told.{AreOutcomes, IsItself}
 
 -- ---- of an object with scripts, where variables go by their positions
 

@@ -1,16 +1,16 @@
 -- Why outcomes are not told, and what each fault says.
 use Rattle.std.specs.Prelude.{◌≡◌, ◌≢◌, ℕ, List, Option, Some}
 use Rattle.ob_checked.specs.Exports.{signatures}
-use Rattle.ob_code_law.specs.Named.{CallMeans}
+use Rattle.ob_code_correct.specs.Named.{CallMeans}
 use Rattle.ob_object_compile.specs.Asked.{Asked}
-use Rattle.ob_object_order.specs.LegalOrder.{CallEnds}
+use Rattle.ob_object_run.specs.LegalOrder.{CallEnds}
 use Rattle.ob_object_outcomes.specs.Questions.{FailsFirst, Holds, IsQuestion}
 use Rattle.ob_object_outcomes.specs.Scripted.{ScriptedParts, IsScripted}
 use Rattle.ob_object_outcomes.specs.declared.finding.OutcomesFault.{OutcomesFault}
 use Rattle.ob_object_outcomes.specs.declared.finding.OutcomesFault.TheVariants as Faults
-use Rattle.ob_object_sequence.specs.SequentialRun.{IsSeqRefusal}
-use Rattle.ob_object_sequence.specs.declared.sequential.SeqTextFault.{SeqTextFault}
-use Rattle.ob_object_sequence.specs.declared.sequential.SeqTextFault.TheVariants as Seq
+use Rattle.ob_object_calls.specs.SequentialRun.{IsSeqRefusal}
+use Rattle.ob_object_calls.specs.declared.sequential.SeqTextFault.{SeqTextFault}
+use Rattle.ob_object_calls.specs.declared.sequential.SeqTextFault.TheVariants as Seq
 use Rattle.ob_text_words.specs.Words.{Word}
 use Rattle.wf_history.specs.declared.event.CallId.{CallId}
 use Rattle.wf_outcomes.specs.Explored.{HasMore}

@@ -5,7 +5,7 @@ use Rattle.ob_interface.specs.Call.{ObjectCall, Reply}
 use Rattle.ob_interface.specs.Export.{Signature}
 use Rattle.ob_interface.specs.declared.scalar.Scalar.TheVariants.{Bool as Truth}
 use Rattle.ob_interface.specs.declared.scalar.ScalarType.TheVariants.{Boolean}
-use Rattle.ob_text_exports.specs.ExportNames.{export_named}
+use Rattle.ob_text_words.specs.ExportNames.{export_named}
 use Rattle.ob_text_words.specs.Words.{Word}
 use Rattle.wf_history.specs.declared.event.CallId.{CallId}
 use Rattle.wf_outcomes.specs.Merges.{Configuration, Leads, start}

@@ -4,33 +4,34 @@ ghost use Rattle.std.specs.Prelude.{◌≡◌, Err, IfOk, IfErr, IfSome, OnOk, m
 ghost use Rattle.ob_checked.specs.CheckedModule.{program_in};
 ghost use Rattle.ob_object_compile.specs.Asked.{TellsAtOnce};
 ghost use Rattle.ob_object_compile.specs.View.{asked_of};
-ghost use Rattle.ob_object_order.specs.LegalOrder.{CallEnds};
+ghost use Rattle.ob_object_run.specs.LegalOrder.{CallEnds};
 ghost use Rattle.ob_object_outcomes.specs.Asking.{IsAsked, IsFailing, SaysNoQuestion};
 ghost use Rattle.ob_object_outcomes.specs.Outcomes.{AlwaysHere, AreOutcomesOf, ArePlaced, HoldsAlways};
 ghost use Rattle.ob_object_outcomes.specs.OutcomesFaults.{IsFaultHere, IsOutcomesFault};
 ghost use Rattle.ob_object_outcomes.specs.Questions.{Holds};
 ghost use Rattle.ob_object_outcomes.specs.Scripted.{scripted_in};
-ghost use Rattle.ob_object_outcomes.specs.View.{always_in, last_in, outcomes_in};
+ghost use Rattle.ob_object_outcomes.specs.OutcomesView.{always_in, last_in, outcomes_in};
 ghost use Rattle.ob_object_search.specs.Kept.{kept_in};
 ghost use Rattle.ob_store.specs.View.{state_of};
 ghost use Rattle.wf_outcomes.specs.Explored.{calls_in};
 ghost use Rattle.wf_outcomes.specs.Outcomes.{AlwaysGood};
-ghost use Rattle.wf_told.specs.Told.{AreOutcomes, IsItself};
-ghost use Rattle.wf_told.specs.View.{call_in, end_in};
+ghost use Rattle.wf_outcomes.specs.Told.{AreOutcomes, IsItself};
+ghost use Rattle.wf_outcomes.specs.View.{call_in, end_in};
 
 use crate::question::{call_of, passed, question_named};
 use crate::scripted::{Scripted, scripted_text};
 use ob_interface::NoMemory;
+use ob_object_calls::SeqTextFault;
 use ob_object_compile::Asked;
 use ob_object_search::{KeptState, ModuleObject};
-use ob_object_sequence::SeqTextFault;
 use ob_store::state::State;
 use std::alloc::{AllocError, Global};
 use std::hash::RandomState;
 use thiserror::Error;
 use wf_history::CallId;
-use wf_outcomes::{ExploreFault, Explored, Question, explore};
-use wf_told::{Outcomes, ToldCall, ToldEnd, all_told};
+use wf_outcomes::{
+    ExploreFault, Explored, Outcomes, Question, ToldCall, ToldEnd, all_told, explore,
+};
 
 /// What an exploration is to go by.
 #[derive(Clone, Copy)]

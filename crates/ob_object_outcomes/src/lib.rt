@@ -1,17 +1,26 @@
-//! All outcomes of the calls of scripts on a module's object, from the bytes of a module and of a script: the replies that each
-//! call may have, and the states in which all calls may end, over all merges of the scripts.
+//! All outcomes of the calls of scripts on a module's object, from the bytes of a module and of a script, over all merges: the replies that
+//! each call may have, the states in which all may end, all replies and the last state together; as lines, and as the story of one.
 //!
-//! One may rely on the clauses of `outcomes_text`, which are in the words of `specs/Outcomes.antt` and
-//! `specs/OutcomesFaults.antt`. Which of several orders is told may change without asking.
+//! One may rely on the clauses of `outcomes_text`, `wholes_text`, `outcome_lines` and `story`. Which of several orders is told, and the words
+//! behind a story, may change without asking.
 #![tactic(auto)]
 
+mod ending;
 pub mod finding;
 pub mod laws;
+pub mod outcomes;
+pub mod parts;
 mod question;
 pub mod scripted;
 mod scripts;
+pub mod stories;
+pub mod wholes;
 
 pub use finding::{
     Bounds, LastState, ModuleOutcomes, OutcomesFault, must_hold, outcomes_text, question_asked,
 };
+pub use outcomes::outcome_lines;
+pub use parts::{push_ids, push_order};
 pub use scripted::{Scripted, scripted_text};
+pub use stories::story;
+pub use wholes::{WholeOutcome, wholes_text};

@@ -3,11 +3,11 @@ use Rattle.std.proofs.Common.{◌≡◌, ◌<◌, ℕ, List, All, map, sym, subs
 use Rattle.std.specs.Prelude.{slice_index_or}
 use Rattle.std.proofs.lemmas.List.{length-map}
 use Rattle.std.proofs.Math.ListN.{get_or-map}
-use Rattle.ob_code_law.specs.CodeMeaning.{EngineParts}
-use Rattle.ob_code_law.specs.Compiled.{Fits, IsFitting}
+use Rattle.ob_code_correct.specs.CodeMeaning.{EngineParts}
+use Rattle.ob_code_correct.specs.Compiled.{Fits, IsFitting}
 use Rattle.ob_object_compile.specs.Compilation.{ObjectParts}
 use Rattle.ob_object_compile.specs.Sound.{IsSoundObject}
-use Rattle.ob_object_perform.proofs.Objects.{fits_engine}
+use Rattle.ob_object_perform.proofs.PerformObjects.{fits_engine}
 use Rattle.ob_text_words.specs.ScriptCalls
 use Rattle.ob_text_words.specs.ScriptCalls.{object_call, script_call_of}
 use Rattle.ob_text_words.specs.declared.script_call.ScriptCall.{ScriptCall}

@@ -8,14 +8,14 @@ use Rattle.ob_object_perform.specs.Pictured.{IsDrawFault, IsDrawRefusal, IsPictu
 use Rattle.ob_object_perform.specs.Texts.{Texts}
 use Rattle.ob_object_perform.specs.declared.drawing.DrawFault.TheVariants as Draw
 use Rattle.ob_object_perform.specs.declared.performing.PerformFault.{PerformFault}
-use Rattle.ob_object_record.specs.Record.{Record}
-use Rattle.ob_text_picture.specs.Shapes.{picture_text}
-use Rattle.ob_text_picture_chart.specs.Charts.{begun, chart_of, range_of}
-use Rattle.ob_text_picture_chart.specs.Faults.{IsRangeFault, MayBeShown}
-use Rattle.ob_text_picture_chart.specs.Moments.{Moment}
-use Rattle.ob_text_picture_chart.specs.declared.charts.CallRange.{CallRange}
-use Rattle.ob_text_picture_chart.specs.declared.fault.PictureFault.{PictureFault}
-use Rattle.ob_text_picture_chart.specs.declared.fault.PictureFault.TheVariants as Pictures
+use Rattle.ob_text_record.specs.Record.{Record}
+use Rattle.ob_picture.specs.Shapes.{picture_text}
+use Rattle.ob_picture_chart.specs.Charts.{begun, chart_of, range_of}
+use Rattle.ob_picture_chart.specs.Faults.{IsRangeFault, MayBeShown}
+use Rattle.ob_picture_chart.specs.Moments.{Moment}
+use Rattle.ob_picture_chart.specs.declared.charts.CallRange.{CallRange}
+use Rattle.ob_picture_chart.specs.declared.fault.PictureFault.{PictureFault}
+use Rattle.ob_picture_chart.specs.declared.fault.PictureFault.TheVariants as Pictures
 use Rattle.ob_typing.specs.Program.{Program}
 use Rattle.wf_history.specs.declared.event.CallId.{CallId}
 

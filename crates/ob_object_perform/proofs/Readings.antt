@@ -1,13 +1,13 @@
 -- A run of what was read of texts is a run from the texts.
 use Rattle.std.proofs.Common.{◌≡◌, ℕ, List, ap, subst}
-use Rattle.ob_code_law.specs.CodeMeaning.{EngineParts}
+use Rattle.ob_code_correct.specs.CodeMeaning.{EngineParts}
 use Rattle.ob_object_compile.specs.Compilation.{IsShort, ObjectParts}
 use Rattle.ob_object_perform.specs.Performance.{AreMakersIn, AreReadOf, IsMeantIn, IsRunOf, Shows}
 use Rattle.ob_object_perform.specs.Pictured.{IsWithMakers}
 use Rattle.ob_object_perform.specs.Texts.{Texts}
-use Rattle.ob_object_record.specs.Record.{Record}
+use Rattle.ob_text_record.specs.Record.{Record}
 use Rattle.ob_object_run.specs.Recorded.{IsMeantOrder}
-use Rattle.ob_schedule.specs.declared.item.Item.{Item}
+use Rattle.ob_text_words.specs.declared.item.Item.{Item}
 use Rattle.ob_text_words.specs.ScriptCalls.{ScriptCall}
 use Rattle.ob_typing.specs.Program.{Program}
 

@@ -1,8 +1,8 @@
 -- What is said with the faults of texts, from what is said with those of their parts.
 use Rattle.std.proofs.Common.{◌≡◌, ◌≢◌, ◌∙◌, ◌⊎◌, ◌<◌, ℕ, List, true, false, inl, inr, sym, ap, refl, subst, arith}
 use Rattle.ob_checked.specs.Exports.{signatures}
-use Rattle.ob_code_law.specs.CodeMeaning.{EngineParts}
-use Rattle.ob_code_law.specs.Compiled.{parts_of}
+use Rattle.ob_code_correct.specs.CodeMeaning.{EngineParts}
+use Rattle.ob_code_correct.specs.Compiled.{parts_of}
 use Rattle.ob_code_scheme.specs.Layout.{encoded}
 use Rattle.ob_interface.specs.Processes.{most_processes}
 use Rattle.ob_object_compile.proofs.Openings.{one_activation}
@@ -13,13 +13,13 @@ use Rattle.ob_object_compile.specs.declared.compiling.CompileFault.{CompileFault
 use Rattle.ob_object_compile.specs.declared.compiling.CompileFault.TheVariants as Compile
 use Rattle.ob_object_perform.specs.Performance.{AreReadOf, HasNoReading, HasNoRun, IsFaultOf, IsNumbered, IsOfTexts, IsRefusal, IsRunFault, IsRunOf, Shows, ShowsNone, TellsMemoryApart, carried_in, of_compile, of_play, of_schedule, of_script}
 use Rattle.ob_object_perform.specs.Texts.{Texts}
-use Rattle.ob_object_record.specs.Record.{Record}
+use Rattle.ob_text_record.specs.Record.{Record}
 use Rattle.ob_object_run.specs.Recorded.{IsRecorded}
-use Rattle.ob_positions.specs.Store.{Activation}
-use Rattle.ob_schedule.specs.Schedule.{IsScheduleFault}
-use Rattle.ob_schedule.specs.declared.item.Item.{Item}
-use Rattle.ob_schedule.specs.declared.schedule.ScheduleFault.{ScheduleFault}
-use Rattle.ob_schedule.specs.declared.schedule.ScheduleFault.TheVariants as Schedule
+use Rattle.ob_meaning.specs.ByPositionStore.{Activation}
+use Rattle.ob_text_words.specs.Schedule.{IsScheduleFault}
+use Rattle.ob_text_words.specs.declared.item.Item.{Item}
+use Rattle.ob_text_words.specs.declared.schedule.ScheduleFault.{ScheduleFault}
+use Rattle.ob_text_words.specs.declared.schedule.ScheduleFault.TheVariants as Schedule
 use Rattle.ob_text_scripts.specs.Script.{IsScript, IsScriptFault}
 use Rattle.ob_text_scripts.specs.declared.script.ScriptFault.{ScriptFault}
 use Rattle.ob_text_scripts.specs.declared.script.ScriptFault.TheVariants as Script

@@ -3,22 +3,22 @@ use Rattle.std.proofs.Common.{◌≡◌, ℕ, Bool, List, Option, subst}
 use Rattle.std.proofs.Math.Logic.{∥∥₁_map}
 use Rattle.std.specs.Prelude.{ℤ}
 use Rattle.ob_code_engine.specs.CodeEngine.{CompiledParts}
-use Rattle.ob_code_law.specs.CodeMeaning.{EngineParts, code_meaning}
-use Rattle.ob_code_law.specs.Compiled.{HasReserve, IsFitting}
-use Rattle.ob_code_law.specs.Parts.{IsLawfulFor}
-use Rattle.ob_code_layout.specs.Layout.{LayoutParts}
+use Rattle.ob_code_correct.specs.CodeMeaning.{EngineParts, code_meaning}
+use Rattle.ob_code_correct.specs.Compiled.{HasReserve, IsFitting}
+use Rattle.ob_code_correct.specs.Parts.{IsLawfulFor}
+use Rattle.ob_layout.specs.Layout.{LayoutParts}
 use Rattle.ob_code_machine.specs.Body.{Run}
 use Rattle.ob_code_scheme.specs.Layout.{encoded}
 use Rattle.ob_interface.specs.Call.{ObjectCall}
 use Rattle.ob_object_compile.specs.Compilation.{ObjectParts}
 use Rattle.ob_object_compile.specs.Sound.{IsSoundObject}
-use Rattle.ob_object_perform.proofs.Objects.{engine, named_object_of, variables_are}
+use Rattle.ob_object_perform.proofs.PerformObjects.{engine, named_object_of, variables_are}
 use Rattle.ob_object_perform.specs.Performance.{AreMakersIn, IsMeantIn, IsRunFault, Shows, ShowsNone}
-use Rattle.ob_object_record.specs.Record.{Record, carried_from}
+use Rattle.ob_text_record.specs.Record.{Record, carried_from}
 use Rattle.ob_object_run.specs.Laws.{StatesAreObjects}
 use Rattle.ob_object_run.specs.Recorded.{IsMeantFor, IsMeantOrder, IsNoRun, IsRecorded}
-use Rattle.ob_positions.specs.Store.{Activation}
-use Rattle.ob_schedule.specs.declared.item.Item.{Item}
+use Rattle.ob_meaning.specs.ByPositionStore.{Activation}
+use Rattle.ob_text_words.specs.declared.item.Item.{Item}
 use Rattle.ob_text_words.specs.ScriptCalls.{ScriptCall}
 use Rattle.wf_play.specs.Makers.{AreMakersOf}
 use Rattle.wf_play.specs.Played.{IsPlayed, IsPlayFault, scripts_of}

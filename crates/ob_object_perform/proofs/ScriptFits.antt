@@ -3,8 +3,8 @@ use Rattle.std.proofs.Common.{ℕ, List, All, arith}
 use Rattle.std.specs.Prelude.{ℤ, slice_index_or}
 use Rattle.std.proofs.lemmas.List.Elements.{All-cons, All-nil}
 use Rattle.ob_checked.specs.Exports.{signatures}
-use Rattle.ob_code_law.specs.Compiled.{Fits}
-use Rattle.ob_code_law.specs.EngineLaw.{FittingIsOfSignatures}
+use Rattle.ob_code_correct.specs.Compiled.{Fits}
+use Rattle.ob_code_correct.specs.EngineLaw.{FittingIsOfSignatures}
 use Rattle.ob_code_scheme.specs.Correct.{IsInRange}
 use Rattle.ob_code_scheme.specs.Types.{IsInteger}
 use Rattle.ob_interface.specs.Call.{ObjectCall}
@@ -12,8 +12,8 @@ use Rattle.ob_interface.specs.Export.{CallFits, Signature}
 use Rattle.ob_interface.specs.declared.scalar.Scalar.{Scalar}
 use Rattle.ob_interface.specs.declared.scalar.ScalarType.{ScalarType}
 use Rattle.ob_text_scripts.specs.Script.{AreLines, IsScript, Makes, call, makes, none, skipped}
-use Rattle.ob_text_exports.specs.Values as Values
-use Rattle.ob_text_exports.specs.Values.{AreValues, IsValue}
+use Rattle.ob_text_words.specs.Values as Values
+use Rattle.ob_text_words.specs.Values.{AreValues, IsValue}
 use Rattle.ob_text_words.specs.ScriptCalls.{ScriptCall, object_call}
 use Rattle.ob_text_words.specs.Words as Words
 use Rattle.ob_text_words.specs.Words.{Word}

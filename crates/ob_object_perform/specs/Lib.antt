@@ -1,5 +1,11 @@
-pub mod Texts
+pub mod Behind
+pub mod Kept
+pub mod Numbers
+pub mod PerformLaws
 pub mod Performance
-pub mod Printed
-pub mod Laws
 pub mod Pictured
+pub mod Printed
+pub mod Spent
+pub mod Texts
+pub mod TreeLaws
+pub mod TreeRuns

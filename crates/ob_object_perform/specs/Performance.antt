@@ -1,11 +1,11 @@
 -- A run from the texts of a module, of scripts and of a schedule: what its record is, and why there is none.
 use Rattle.std.specs.Prelude.{◌≡◌, ◌≢◌, ℕ, ◌<◌, All, Bool, true, false, List, Option}
-use Rattle.ob_agreement.specs.Same.{SameState}
+use Rattle.ob_meaning.specs.Same.{SameState}
 use Rattle.ob_checked.specs.Exports.{signatures}
-use Rattle.ob_code_law.specs.CodeMeaning.{code_meaning}
-use Rattle.ob_code_law.specs.Compiled.{Fits, HasReserve}
+use Rattle.ob_code_correct.specs.CodeMeaning.{code_meaning}
+use Rattle.ob_code_correct.specs.Compiled.{Fits, HasReserve}
 use Rattle.ob_code_scheme.specs.Layout.{encoded}
-use Rattle.ob_meaning.specs.Object as Named
+use Rattle.ob_meaning.specs.ByNameObject as Named
 use Rattle.ob_object_compile.specs.Compilation as Compilation
 use Rattle.ob_object_compile.specs.Compilation.{IsAny, IsObjectFault, IsObjectOf, IsShort, ObjectParts}
 use Rattle.ob_object_compile.specs.Sound.{IsSoundObject}
@@ -14,13 +14,13 @@ use Rattle.ob_object_compile.specs.declared.compiling.CompileFault.TheVariants a
 use Rattle.ob_object_perform.specs.Texts.{Texts}
 use Rattle.ob_object_perform.specs.declared.performing.PerformFault.{PerformFault}
 use Rattle.ob_object_perform.specs.declared.performing.PerformFault.TheVariants as Faults
-use Rattle.ob_object_record.specs.Record.{Record, carried_from}
+use Rattle.ob_text_record.specs.Record.{Record, carried_from}
 use Rattle.ob_object_run.specs.Recorded.{IsMeantOrder, IsNoRun, IsRecorded}
-use Rattle.ob_positions.specs.Store.{Activation}
-use Rattle.ob_schedule.specs.Schedule.{IsSchedule, IsScheduleFault, process_of}
-use Rattle.ob_schedule.specs.declared.item.Item.{Item}
-use Rattle.ob_schedule.specs.declared.schedule.ScheduleFault.{ScheduleFault}
-use Rattle.ob_schedule.specs.declared.schedule.ScheduleFault.TheVariants as Schedule
+use Rattle.ob_meaning.specs.ByPositionStore.{Activation}
+use Rattle.ob_text_words.specs.Schedule.{IsSchedule, IsScheduleFault, process_of}
+use Rattle.ob_text_words.specs.declared.item.Item.{Item}
+use Rattle.ob_text_words.specs.declared.schedule.ScheduleFault.{ScheduleFault}
+use Rattle.ob_text_words.specs.declared.schedule.ScheduleFault.TheVariants as Schedule
 use Rattle.ob_text_scripts.specs.Script.{IsScript, IsScriptFault}
 use Rattle.ob_text_scripts.specs.declared.script.ScriptFault.{ScriptFault}
 use Rattle.ob_text_scripts.specs.declared.script.ScriptFault.TheVariants as Script

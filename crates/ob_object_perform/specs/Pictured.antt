@@ -8,14 +8,14 @@ use Rattle.ob_object_perform.specs.Texts.{Texts}
 use Rattle.ob_object_perform.specs.declared.drawing.DrawFault.{DrawFault}
 use Rattle.ob_object_perform.specs.declared.drawing.DrawFault.TheVariants as Faults
 use Rattle.ob_object_perform.specs.declared.performing.PerformFault.TheVariants as Perform
-use Rattle.ob_object_record.specs.Record.{Record}
-use Rattle.ob_text_picture.specs.Shapes.{picture_text}
-use Rattle.ob_text_picture_chart.specs.Charts.{begun, chart_of, range_of}
-use Rattle.ob_text_picture_chart.specs.Faults.{IsRangeFault, MayBeShown}
-use Rattle.ob_text_picture_chart.specs.Moments.{Moment, seen_from}
-use Rattle.ob_text_picture_chart.specs.declared.charts.CallRange.{CallRange}
-use Rattle.ob_text_picture_chart.specs.declared.fault.PictureFault.{PictureFault}
-use Rattle.ob_text_picture_chart.specs.declared.fault.PictureFault.TheVariants as Pictures
+use Rattle.ob_text_record.specs.Record.{Record}
+use Rattle.ob_picture.specs.Shapes.{picture_text}
+use Rattle.ob_picture_chart.specs.Charts.{begun, chart_of, range_of}
+use Rattle.ob_picture_chart.specs.Faults.{IsRangeFault, MayBeShown}
+use Rattle.ob_picture_chart.specs.Moments.{Moment, seen_from}
+use Rattle.ob_picture_chart.specs.declared.charts.CallRange.{CallRange}
+use Rattle.ob_picture_chart.specs.declared.fault.PictureFault.{PictureFault}
+use Rattle.ob_picture_chart.specs.declared.fault.PictureFault.TheVariants as Pictures
 use Rattle.ob_typing.specs.Program.{Program}
 
 -- the record is that of a run from the texts, the program that of its object, and the makers are for each event the process whose step showed

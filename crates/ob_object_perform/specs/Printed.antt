@@ -3,7 +3,7 @@ use Rattle.std.specs.Prelude.{◌≡◌, ℕ, ◌<◌, ◌^◌, List, length}
 use Rattle.ob_object_compile.specs.Compilation.{IsShort}
 use Rattle.ob_object_perform.specs.Performance.{IsPerformance, IsRunOf}
 use Rattle.ob_object_perform.specs.Texts.{Texts}
-use Rattle.ob_object_record.specs.Record.{Record}
+use Rattle.ob_text_record.specs.Record.{Record}
 use Rattle.ob_text_record.specs.RecordText.{record_text}
 use Rattle.ob_typing.specs.Program.{Program}
 

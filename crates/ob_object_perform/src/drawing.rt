@@ -7,16 +7,16 @@ ghost use Rattle.ob_object_compile.specs.Compilation.{IsShort};
 ghost use Rattle.ob_object_perform.specs.Performance.{IsRefusal};
 ghost use Rattle.ob_object_perform.specs.Pictured.{IsDrawRefusal, IsPicturePrinted, IsWithMakers};
 ghost use Rattle.ob_object_perform.specs.Texts.{texts_of};
-ghost use Rattle.ob_object_record.specs.Record.{record_of};
+ghost use Rattle.ob_text_record.specs.Record.{record_of};
 
+use crate::perform_running::run_with_makers;
 use crate::performing::{PerformFault, read_texts};
-use crate::running::run_with_makers;
 use crate::texts::Texts;
 use ob_checked::checked::Checked;
 use ob_interface::MOST_PROCESSES;
-use ob_object_record::Record;
-use ob_text_picture::draw;
-use ob_text_picture_chart::{CallRange, PictureFault, seen_moments};
+use ob_picture::draw;
+use ob_picture_chart::{CallRange, PictureFault, seen_moments};
+use ob_text_record::Record;
 use std::alloc::{AllocError, Global};
 use thiserror::Error;
 

@@ -1,18 +1,36 @@
-//! Runs of a module's object from texts: of the module, of scripts and of a schedule; their records, what is printed of them, and pictures.
+//! Runs of a module's object from texts, over its code or over its tree: their records, what is printed of them, pictures, how many own steps
+//! each call took and may take at most, and the state of the machine behind a run.
 //!
-//! Each record shows a run of the object that is asked for, and its order is legal by what the calls mean by name with the budget,
-//! from the state on with which the object begins. The rest is said by the laws: the order and the replies of one process, the bound on own steps, and
-//! that a checker of orders accepts each record.
+//! Each record shows a run of the object that is asked for, and its order is legal by what the calls mean by name. Where a module has code,
+//! the text of a run over its tree is that of the run over code, byte for byte. One may rely on these clauses and on the laws.
 #![tactic(auto)]
 
+pub mod bound_laws;
+pub mod bounding;
 pub mod drawing;
-pub mod laws;
+mod lines;
+pub mod numbers;
+pub mod perform_laws;
+pub mod perform_printing;
+pub mod perform_running;
 pub mod performing;
-pub mod printing;
-pub mod running;
+mod recording;
+pub mod spent_printing;
+mod spent_running;
+pub mod stating;
 pub mod texts;
+pub mod tree_laws;
+pub mod tree_performing;
+pub mod tree_printing;
+mod tree_running;
 
+pub use bounding::bound_text;
 pub use drawing::{DrawFault, draw_text};
+pub use numbers::{Numbers, numbers_of};
+pub use perform_printing::run_text;
 pub use performing::{PerformFault, perform, perform_from, performed};
-pub use printing::run_text;
+pub use spent_printing::run_text_with_steps;
+pub use stating::state_text;
 pub use texts::Texts;
+pub use tree_performing::perform_tree;
+pub use tree_printing::run_tree_text;

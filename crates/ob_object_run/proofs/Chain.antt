@@ -4,20 +4,20 @@ use Rattle.std.specs.Prelude.{ℤ, Some, None}
 use Rattle.std.proofs.Math.Logic.{∥∥₁_elim, ∥∥₁_map}
 use Rattle.ob_interface.specs.Call.{ObjectCall, Reply}
 use Rattle.ob_typing.specs.Program.{Program, Variable}
-use Rattle.ob_meaning.specs.Object as Named
-use Rattle.ob_positions.specs.Store.{Activation}
-use Rattle.ob_positions.specs.Object.{effect}
-use Rattle.ob_agreement.specs.Same.{SameState}
+use Rattle.ob_meaning.specs.ByNameObject as Named
+use Rattle.ob_meaning.specs.ByPositionStore.{Activation}
+use Rattle.ob_meaning.specs.ByPositionObject.{effect}
+use Rattle.ob_meaning.specs.Same.{SameState}
 use Rattle.ob_code_scheme.specs.Layout.{decoded}
-use Rattle.ob_code_law.specs.CodeMeaning.{EngineParts}
-use Rattle.ob_code_law.specs.Compiled.{IsFitting, Fits, CallEnds}
-use Rattle.ob_code_law.specs.Carried.{BegunFit, IsOfState, LegalTo}
-use Rattle.ob_code_law.specs.Named.{CallMeans, PositionsCarryLegal}
-use Rattle.ob_code_law.specs.Parts.{IsCompiledTo, IsEffectOf}
-use Rattle.ob_code_law.proofs.CodeLaw.{lawful_decoded}
-use Rattle.ob_code_law.proofs.PartsLaw.{effect_of_each, parts_are_read}
-use Rattle.ob_object_order.specs.LegalOrder.{IsLegalOrder}
-use Rattle.ob_object_record.specs.Record.{Record}
+use Rattle.ob_code_correct.specs.CodeMeaning.{EngineParts}
+use Rattle.ob_code_correct.specs.Compiled.{IsFitting, Fits, CallEnds}
+use Rattle.ob_code_correct.specs.Carried.{BegunFit, IsOfState, LegalTo}
+use Rattle.ob_code_correct.specs.Named.{CallMeans, PositionsCarryLegal}
+use Rattle.ob_code_correct.specs.Parts.{IsCompiledTo, IsEffectOf}
+use Rattle.ob_code_correct.proofs.CodeLaw.{lawful_decoded}
+use Rattle.ob_code_correct.proofs.PartsLaw.{effect_of_each, parts_are_read}
+use Rattle.ob_object_run.specs.LegalOrder.{IsLegalOrder}
+use Rattle.ob_text_record.specs.Record.{Record}
 use Rattle.ob_object_run.specs.Recorded.{DoFit, IsLegalFor, IsMeantFor, IsNamedObjectOf, IsObject, IsObjectOf}
 use Rattle.wf_history.specs.declared.event.CallId.{CallId}
 use Rattle.wf_history.specs.History.{Event}

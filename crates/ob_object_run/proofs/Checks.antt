@@ -3,12 +3,12 @@ use Rattle.std.proofs.Common.{ℕ, List, refl, ◌≡◌}
 use Rattle.std.proofs.Math.Logic.{∥∥₁_elim}
 use Rattle.ob_interface.specs.Call.{ObjectCall, Reply}
 use Rattle.ob_typing.specs.Program.{Program}
-use Rattle.ob_positions.specs.Store.{Activation}
-use Rattle.ob_object_order.specs.LegalOrder.{IsLegalOrder}
-use Rattle.ob_object_order.specs.OrderFaults.{IsOrderFault}
-use Rattle.ob_object_order.specs.declared.order.OrderFault.{OrderFault}
-use Rattle.ob_object_order.specs.declared.order.OrderFault.TheVariants as Faults
-use Rattle.ob_object_order.proofs.Faults.{legal_fault}
+use Rattle.ob_meaning.specs.ByPositionStore.{Activation}
+use Rattle.ob_object_run.specs.LegalOrder.{IsLegalOrder}
+use Rattle.ob_object_run.specs.OrderFaults.{IsOrderFault}
+use Rattle.ob_object_run.specs.declared.order.OrderFault.{OrderFault}
+use Rattle.ob_object_run.specs.declared.order.OrderFault.TheVariants as Faults
+use Rattle.ob_object_run.proofs.Faults.{legal_fault}
 use Rattle.wf_history.specs.declared.event.CallId.{CallId}
 use Rattle.wf_history.specs.History.{Event, IsHistory}
 

@@ -4,9 +4,9 @@ use Rattle.std.specs.Prelude.{ℤ}
 use Rattle.ob_typing.specs.Program.{Variable}
 use Rattle.ob_code_engine.specs.CodeEngine.{CompiledParts}
 use Rattle.ob_code_machine.specs.Body.{Run}
-use Rattle.ob_code_law.specs.CodeMeaning.{EngineParts, code_meaning}
-use Rattle.ob_code_law.specs.Compiled.{HasReserve, IsFitting}
-use Rattle.ob_code_law.specs.Parts.{IsLawfulFor}
+use Rattle.ob_code_correct.specs.CodeMeaning.{EngineParts, code_meaning}
+use Rattle.ob_code_correct.specs.Compiled.{HasReserve, IsFitting}
+use Rattle.ob_code_correct.specs.Parts.{IsLawfulFor}
 use Rattle.ob_object_run.specs.Recorded.{IsObject}
 use Rattle.wf_table.specs.Object.{State}
 use Rattle.wf_table.specs.Runs.{Act, ActsFit, IsRun, run}

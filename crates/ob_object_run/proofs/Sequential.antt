@@ -13,8 +13,8 @@ use Rattle.std.proofs.lemmas.Slice.Eq.{slice_eq-Decides}
 use Rattle.ob_interface.specs.declared.scalar.Scalar.{Scalar}
 use Rattle.ob_interface.specs.Call.{Answers, ObjectCall, Reply, Trapped}
 use Rattle.ob_typing.specs.Program.{Program}
-use Rattle.ob_meaning.specs.Object.{Effect, State, effect, replies_to}
-use Rattle.ob_code_law.specs.Named.{CallMeans}
+use Rattle.ob_meaning.specs.ByNameObject.{Effect, State, effect, replies_to}
+use Rattle.ob_code_correct.specs.Named.{CallMeans}
 use Rattle.ob_object_run.specs.OwnCalls.{HasReplies}
 use Rattle.wf_history.specs.declared.event.CallId.{CallId}
 use Rattle.wf_history.specs.History.{Event, End, IsHistory}

@@ -1,11 +1,11 @@
 -- What the calls of a recorded run take of their processes.
 use Rattle.std.specs.Prelude.{◌≡◌, ℕ, List, ◌++◌}
 use Rattle.ob_interface.specs.Call.{ObjectCall}
-use Rattle.wf_bound.specs.Bound.{AllWithinBound, IsWithinBound}
-use Rattle.wf_bound.specs.Calls.{BeginsOne, own_spent}
-use Rattle.wf_bound.specs.Counted.{Counted, counted_from, counted_run}
-use Rattle.wf_bound.specs.Limit.{AllWithinLimit}
-use Rattle.wf_bound.specs.declared.spent.Spent.{Spent}
+use Rattle.wf_table.specs.Bound.{AllWithinBound, IsWithinBound}
+use Rattle.wf_table.specs.Calls.{BeginsOne, own_spent}
+use Rattle.wf_table.specs.Counted.{Counted, counted_from, counted_run}
+use Rattle.wf_table.specs.Limit.{AllWithinLimit}
+use Rattle.wf_table.specs.declared.spent.Spent.{Spent}
 use Rattle.wf_table.specs.declared.schedule.Turns.{Turns}
 use Rattle.wf_table.specs.Meaning.{Meaning}
 use Rattle.wf_table.specs.Object.{State}

@@ -2,22 +2,22 @@
 use Rattle.std.specs.Prelude.{◌≡◌, ℕ, ◌<◌, ℤ, List, All, map}
 use Rattle.ob_interface.specs.Call.{ObjectCall}
 use Rattle.ob_typing.specs.Program.{Program}
-use Rattle.ob_meaning.specs.Object.{State, replies_to}
-use Rattle.ob_positions.specs.Store.{Activation}
+use Rattle.ob_meaning.specs.ByNameObject.{State, replies_to}
+use Rattle.ob_meaning.specs.ByPositionStore.{Activation}
 use Rattle.ob_code_engine.specs.Total.{body_limit}
-use Rattle.ob_code_law.specs.CodeMeaning.{EngineParts, code_meaning}
-use Rattle.ob_code_law.specs.Compiled.{parts_of}
+use Rattle.ob_code_correct.specs.CodeMeaning.{EngineParts, code_meaning}
+use Rattle.ob_code_correct.specs.Compiled.{parts_of}
 use Rattle.ob_code_scheme.specs.Layout.{encoded}
 use Rattle.ob_code_scheme.specs.Types.{IsStateOf}
 use Rattle.ob_code_scheme.specs.WellFormed.{IsWellFormed}
-use Rattle.ob_object_order.specs.OrderFaults.{IsOrderFault}
-use Rattle.ob_object_order.specs.declared.order.OrderFault.{OrderFault}
-use Rattle.ob_object_order.specs.declared.order.OrderFault.TheVariants.{NoMemory}
-use Rattle.ob_object_record.specs.Record.{Record}
+use Rattle.ob_object_run.specs.OrderFaults.{IsOrderFault}
+use Rattle.ob_object_run.specs.declared.order.OrderFault.{OrderFault}
+use Rattle.ob_object_run.specs.declared.order.OrderFault.TheVariants.{NoMemory}
+use Rattle.ob_text_record.specs.Record.{Record}
 use Rattle.ob_object_run.specs.KeepsBound.{CallsKeepBound, KeepsBound, KeepsLimit}
 use Rattle.ob_object_run.specs.OwnCalls.{HasReplies, calls_by}
 use Rattle.ob_object_run.specs.Recorded.{IsNamedObjectOf, IsObjectOf, IsRecorded}
-use Rattle.ob_schedule.specs.declared.item.Item.{Item}
+use Rattle.ob_text_words.specs.declared.item.Item.{Item}
 use Rattle.wf_theorems.specs.FirstCalls.{AreFirstCalls, own_ids}
 
 -- a state of a well-formed program, its variables with values of their types, is an object over the engine of its code, with any budget

@@ -1,4 +1,12 @@
-pub mod Recorded
-pub mod OwnCalls
+pub mod InTurn
+pub mod Interpreting
 pub mod KeepsBound
 pub mod Laws
+pub mod LegalOrder
+pub mod Noted
+pub mod OrderFaults
+pub mod OwnCalls
+pub mod PlacedCalls
+pub mod Places
+pub mod Recorded
+pub mod Rows

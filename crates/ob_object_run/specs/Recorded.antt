@@ -2,20 +2,20 @@
 use Rattle.std.specs.Prelude.{◌≡◌, ℕ, ℤ, List, map}
 use Rattle.ob_interface.specs.Call.{ObjectCall, Reply}
 use Rattle.ob_typing.specs.Program.{Program, Variable}
-use Rattle.ob_meaning.specs.Object as Named
-use Rattle.ob_positions.specs.Store.{Activation}
-use Rattle.ob_agreement.specs.Resolved.{IsResolved}
-use Rattle.ob_agreement.specs.Same.{SameState}
+use Rattle.ob_meaning.specs.ByNameObject as Named
+use Rattle.ob_meaning.specs.ByPositionStore.{Activation}
+use Rattle.ob_meaning.specs.Resolved.{IsResolved}
+use Rattle.ob_meaning.specs.Same.{SameState}
 use Rattle.ob_code_machine.specs.Body.{Run}
 use Rattle.ob_code_scheme.specs.Layout.{IsEncoding}
-use Rattle.ob_code_law.specs.CodeMeaning.{EngineParts, code_meaning}
-use Rattle.ob_code_law.specs.Compiled.{IsFitting, HasReserve}
-use Rattle.ob_code_law.specs.Carried.{BegunFit}
-use Rattle.ob_code_law.specs.Named.{CallMeans}
-use Rattle.ob_code_law.specs.Parts.{IsCompiledTo, IsLawfulFor}
-use Rattle.ob_object_order.specs.LegalOrder.{IsLegalOrder}
-use Rattle.ob_object_record.specs.Record.{Record}
-use Rattle.ob_schedule.specs.declared.item.Item.{Item}
+use Rattle.ob_code_correct.specs.CodeMeaning.{EngineParts, code_meaning}
+use Rattle.ob_code_correct.specs.Compiled.{IsFitting, HasReserve}
+use Rattle.ob_code_correct.specs.Carried.{BegunFit}
+use Rattle.ob_code_correct.specs.Named.{CallMeans}
+use Rattle.ob_code_correct.specs.Parts.{IsCompiledTo, IsLawfulFor}
+use Rattle.ob_object_run.specs.LegalOrder.{IsLegalOrder}
+use Rattle.ob_text_record.specs.Record.{Record}
+use Rattle.ob_text_words.specs.declared.item.Item.{Item}
 use Rattle.ob_text_words.specs.ScriptCalls.{script_call_of}
 use Rattle.ob_text_words.specs.declared.script_call.ScriptCall.{ScriptCall}
 use Rattle.wf_history.specs.History.{Event}

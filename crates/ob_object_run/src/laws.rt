@@ -2,9 +2,9 @@
 
 ghost use Rattle.ob_object_run.specs.Laws.{OneProcessAnswers, OneProcessInTurn, OwnCallsInTurn, RunsKeepBound, RunsKeepBoundByCall, RunsKeepTotal, RunsPassCheck, StatesAreObjects};
 
+use ob_code_correct::laws::orders_are_carried;
 use ob_code_engine::CodeEngine;
-use ob_code_engine::laws::engines_keep_total;
-use ob_code_law::laws::orders_are_carried;
+use ob_code_engine::engine_laws::engines_keep_total;
 use wf_theorems::alone::{every_process, process_alone};
 use wf_theorems::bound::{every_bound, every_call};
 use wf_theorems::runs::every_run;

@@ -1,11 +1,19 @@
-//! Runs of a module's object over its compiled code, and their records.
+//! Runs of a module's object over its compiled code, with their records; and the checker of orders: whether a list of calls is a legal order of
+//! a history on a module's object, where each call has a budget of turns.
 //!
-//! Every run is soundly recorded, and its order legal by what the source means, by `record_run` and `recorded`; the rest is
-//! said by the laws: the order of each process's own calls, the replies of one process, the bound on own steps, also where
-//! nothing is asked of the calls, and that a checker of orders accepts each record.
+//! Every run is soundly recorded, and its order legal by what the source means (`record_run`, `recorded`). The laws say the rest: the order
+//! of each process's own calls, the bound on own steps, and that the checker accepts each record.
 #![tactic(auto)]
 
+mod interpreted;
 pub mod laws;
+pub mod maker;
+mod noted;
+pub mod order;
+mod places;
 pub mod recording;
+mod replies;
 
+pub use maker::CallMaker;
+pub use order::{OrderFault, check_order, check_order_by};
 pub use recording::{record_run, recorded};

@@ -1,22 +1,22 @@
 //! Runs and their records.
 
 ghost use Rattle.std.specs.Prelude.{◌≡◌, ◌<◌, All, IfOk, IfErr};
-ghost use Rattle.ob_code_layout.specs.Layout.{parts_of};
-ghost use Rattle.ob_code_law.specs.Compiled.{IsFitting};
+ghost use Rattle.ob_layout.specs.Layout.{parts_of};
+ghost use Rattle.ob_code_correct.specs.Compiled.{IsFitting};
 ghost use Rattle.ob_code_scheme.specs.Layout.{encoded};
-ghost use Rattle.ob_object_record.specs.Record.{record_of};
+ghost use Rattle.ob_text_record.specs.Record.{record_of};
 ghost use Rattle.ob_object_run.specs.Recorded.{DoFit, IsLegalFor, IsMeantFor, IsNoRun, IsObject, IsRecorded, scripts_in};
-ghost use Rattle.ob_schedule.specs.Schedule.{process_of};
+ghost use Rattle.ob_text_words.specs.Schedule.{process_of};
 ghost use Rattle.ob_store.specs.View.{state_of};
 ghost use Rattle.ob_text_words.specs.ScriptCalls.{object_call, script_call_of};
 
+use ob_code_correct::laws::orders_are_carried;
 use ob_code_engine::CodeEngine;
-use ob_code_law::laws::orders_are_carried;
-use ob_code_layout::{Layout, encode};
 use ob_interface::NoMemory;
-use ob_object_record::Record;
-use ob_schedule::Item;
+use ob_layout::{Layout, encode};
 use ob_store::state::State;
+use ob_text_record::Record;
+use ob_text_words::Item;
 use ob_text_words::script_call::ScriptCall;
 use std::alloc::Global;
 use wf_object::Machine;

@@ -1,11 +1,11 @@
 -- The order that is found, put into a record, is verified.
 use Rattle.std.proofs.Common.{◌≡◌, ℕ, List, Option, subst, sym}
-use Rattle.ob_code_law.specs.Named.{CallMeans}
+use Rattle.ob_code_correct.specs.Named.{CallMeans}
 use Rattle.ob_interface.specs.Call.{ObjectCall, Reply}
 use Rattle.ob_object_search.specs.Agreeing.{FoundOrdersAreVerified}
 use Rattle.ob_object_search.specs.Searched.{budget_of}
-use Rattle.ob_object_verify.specs.Beginnings.{BeginsNamed}
-use Rattle.ob_positions.specs.Store.{Activation}
+use Rattle.ob_object_calls.specs.Beginnings.{BeginsNamed}
+use Rattle.ob_meaning.specs.ByPositionStore.{Activation}
 use Rattle.wf_history.specs.declared.event.CallId.{CallId}
 use Rattle.wf_history.specs.History.{Event}
 use Rattle.wf_history.specs.Legal.{IsLegal}

@@ -6,19 +6,19 @@ use Rattle.std.proofs.Math.Logic.{∥∥₁_elim, ∥∥₁_map}
 use Rattle.std.proofs.lemmas.Option.{same_Some}
 use base.Stored.{coded_via}
 use Rattle.ob_code_calls.specs.Calls.{IsMade}
-use Rattle.ob_code_law.proofs.CodeLaw.{lawful_decoded}
-use Rattle.ob_code_law.specs.CodeMeaning.{EngineParts}
-use Rattle.ob_code_law.specs.Compiled.{parts_of}
-use Rattle.ob_code_law.specs.Parts.{IsCompiledTo, IsLawfulFor}
+use Rattle.ob_code_correct.proofs.CodeLaw.{lawful_decoded}
+use Rattle.ob_code_correct.specs.CodeMeaning.{EngineParts}
+use Rattle.ob_code_correct.specs.Compiled.{parts_of}
+use Rattle.ob_code_correct.specs.Parts.{IsCompiledTo, IsLawfulFor}
 use Rattle.ob_code_scheme.specs.Layout.{decoded, IsEncoding}
 use Rattle.ob_code_scheme.specs.WellFormed.{IsWellFormed}
 use Rattle.ob_interface.specs.Call.{ObjectCall, Reply, Answers, Trapped}
 use Rattle.ob_interface.specs.declared.scalar.Scalar.{Scalar}
-use Rattle.ob_object_order.specs.LegalOrder.{CallEnds}
+use Rattle.ob_object_run.specs.LegalOrder.{CallEnds}
 use Rattle.ob_object_search.specs.Laws.{scalar_apart, words_told_apart}
 use Rattle.ob_object_search.specs.Words.{word_of, words_of}
-use Rattle.ob_positions.specs.Object.{Effect, effect}
-use Rattle.ob_positions.specs.Store.{Activation}
+use Rattle.ob_meaning.specs.ByPositionObject.{Effect, effect}
+use Rattle.ob_meaning.specs.ByPositionStore.{Activation}
 use Rattle.ob_typing.specs.Program.{Program}
 use Rattle.ob_checked.specs.View.{program_of, table_of, variable_of}
 use Rattle.ob_checked.specs.declared.program.Program as Declared

@@ -1,24 +1,24 @@
 -- Histories by position and by name: they have the same legal orders, and cease at the same call to have one.
 use Rattle.std.proofs.Common.{ℕ, ◌+◌, List, ◌++◌, Option, take}
-use Rattle.ob_agreement.specs.Resolved.{IsResolved}
-use Rattle.ob_agreement.specs.Same.{SameState}
-use Rattle.ob_code_law.proofs.Named.{names_simulate, positions_simulate}
-use Rattle.ob_code_law.specs.Carried.{BegunFit}
-use Rattle.ob_code_law.specs.Compiled.{Fits}
-use Rattle.ob_code_law.specs.Named.{CallMeans}
+use Rattle.ob_meaning.specs.Resolved.{IsResolved}
+use Rattle.ob_meaning.specs.Same.{SameState}
+use Rattle.ob_code_correct.proofs.Named.{names_simulate, positions_simulate}
+use Rattle.ob_code_correct.specs.Carried.{BegunFit}
+use Rattle.ob_code_correct.specs.Compiled.{Fits}
+use Rattle.ob_code_correct.specs.Named.{CallMeans}
 use Rattle.ob_interface.specs.Call.{ObjectCall, Reply}
-use Rattle.ob_interpreter.specs.declared.opening.OpenFault.TheVariants as Open
-use Rattle.ob_meaning.specs.Object.{State}
-use Rattle.ob_object_order.specs.LegalOrder.{CallEnds}
+use Rattle.ob_mean.specs.declared.opening.OpenFault.TheVariants as Open
+use Rattle.ob_meaning.specs.ByNameObject.{State}
+use Rattle.ob_object_run.specs.LegalOrder.{CallEnds}
 use Rattle.ob_object_search.proofs.Fitting.{calls_fit, front_fits, history_opened}
 use Rattle.ob_object_search.specs.Searched.{HasNoneNeedless, HasOrder, budget_of}
 use Rattle.ob_object_search.specs.SearchFaults.{CeasesAt, HasSearchFault}
 use Rattle.ob_object_search.specs.declared.searching.SearchFault.{SearchFault}
 use Rattle.ob_object_search.specs.declared.searching.SearchFault.TheVariants as Faults
-use Rattle.ob_object_verify.proofs.Beginnings.{beginning_named, beginning_placed, trap_named}
-use Rattle.ob_object_verify.proofs.Simulated.{legal_there}
-use Rattle.ob_object_verify.specs.Beginnings.{BeginsNamed, BeginsPlaced, TrapsNamed, TrapsPlaced}
-use Rattle.ob_positions.specs.Store.{Activation}
+use Rattle.ob_object_calls.proofs.Beginnings.{beginning_named, beginning_placed, trap_named}
+use Rattle.ob_object_calls.proofs.Simulated.{legal_there}
+use Rattle.ob_object_calls.specs.Beginnings.{BeginsNamed, BeginsPlaced, TrapsNamed, TrapsPlaced}
+use Rattle.ob_meaning.specs.ByPositionStore.{Activation}
 use Rattle.ob_typing.specs.Program.{Program}
 use Rattle.wf_history.specs.History.{Event}
 use Rattle.wf_history.specs.declared.event.CallId.{CallId}

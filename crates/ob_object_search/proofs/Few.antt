@@ -8,8 +8,8 @@ use Rattle.std.specs.List.{slice_get, Contains}
 use Rattle.std.specs.Prelude.{nat_eq}
 use Rattle.ob_interface.specs.Call.{ObjectCall, Reply}
 use Rattle.ob_object_search.proofs.Renamed.{behind, contains_map, place_found, place_in}
-use Rattle.ob_text_history_reading.specs.HistoryLines.{IsOfOne}
-use Rattle.ob_text_history_reading.specs.Names.{AreApart, named, named_all}
+use Rattle.ob_text_reading.specs.HistoryLines.{IsOfOne}
+use Rattle.ob_text_reading.specs.Names.{AreApart, named, named_all}
 use Rattle.wf_history.proofs.Positions.{contains_at, place_of}
 use Rattle.wf_history.specs.History.{Event, Begin, Applied, End, OwnEvent, Begins, Ends, own_events}
 

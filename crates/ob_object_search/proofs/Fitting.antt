@@ -1,15 +1,15 @@
 -- The calls of a history fit the program of whose object it is, and its openings open the variables.
 use Rattle.std.proofs.Common.{ℕ, List, [], take, Option, Some, None}
 use Rattle.ob_checked.specs.Exports.{signatures}
-use Rattle.ob_code_law.specs.Carried.{BegunFit}
-use Rattle.ob_code_law.specs.Compiled.{Fits}
+use Rattle.ob_code_correct.specs.Carried.{BegunFit}
+use Rattle.ob_code_correct.specs.Compiled.{Fits}
 use Rattle.ob_interface.specs.Call.{ObjectCall, Reply}
-use Rattle.ob_object_verify.proofs.Beginnings.{AreOpened}
-use Rattle.ob_object_verify.proofs.Fitting.{event_fits, none_begun, one_more}
-use Rattle.ob_positions.specs.Store.{Activation}
-use Rattle.ob_text_history_reading.specs.HistoryLines as Lines
-use Rattle.ob_text_history_reading.specs.HistoryLines.{AreEventLines, HistoryTold, IsHistoryText, TellsOpening, process_numbers}
-use Rattle.ob_text_record_reading.specs.RecordLines.{Line}
+use Rattle.ob_object_calls.proofs.Beginnings.{AreOpened}
+use Rattle.ob_object_calls.proofs.VerifyFitting.{event_fits, none_begun, one_more}
+use Rattle.ob_meaning.specs.ByPositionStore.{Activation}
+use Rattle.ob_text_reading.specs.HistoryLines as Lines
+use Rattle.ob_text_reading.specs.HistoryLines.{AreEventLines, HistoryTold, IsHistoryText, TellsOpening, process_numbers}
+use Rattle.ob_text_reading.specs.RecordLines.{Line}
 use Rattle.ob_typing.specs.Program.{Program, Variable}
 use Rattle.wf_history.proofs.Positions.{contains_at, place_of, place_take}
 use Rattle.wf_history.specs.History.{Event, Begin}

@@ -2,27 +2,27 @@
 use Rattle.std.proofs.Common.{◌≡◌, ◌≢◌, ◌<◌, ◌≤◌, ◌∙◌, List, [], ◌∷◌, ◌++◌, ℕ, Option, All, length, map, refl, ap, sym, subst, ◌⊎◌, inl, inr, arith}
 use Rattle.std.proofs.lemmas.List.{length-map}
 use Rattle.ob_interface.specs.Call.{ObjectCall, Reply}
-use Rattle.ob_interpreter.specs.declared.opening.OpenFault.{OpenFault}
-use Rattle.ob_interpreter.specs.declared.opening.OpenFault.TheVariants as Open
-use Rattle.ob_object_order.specs.LegalOrder.{CallEnds}
+use Rattle.ob_mean.specs.declared.opening.OpenFault.{OpenFault}
+use Rattle.ob_mean.specs.declared.opening.OpenFault.TheVariants as Open
+use Rattle.ob_object_run.specs.LegalOrder.{CallEnds}
 use Rattle.ob_object_search.proofs.Few.{no_more}
 use Rattle.ob_object_search.specs.Found.{HasOrderHere, IsEnoughHere, IsFaultHere, IsNeededHere}
 use Rattle.ob_object_search.specs.Searched.{HasEnough, HasNoneNeedless, HasOrder, budget_of}
 use Rattle.ob_object_search.specs.SearchFaults.{CeasesAt, HasSearchFault, IsUndecided, TellsMemoryApart, of_open, of_reading}
 use Rattle.ob_object_search.specs.declared.searching.SearchFault.{SearchFault}
 use Rattle.ob_object_search.specs.declared.searching.SearchFault.TheVariants as Faults
-use Rattle.ob_object_verify.proofs.Beginnings.{no_trap, one_state}
-use Rattle.ob_object_verify.specs.Beginnings.{BeginsPlaced, IsBeginningFault, TrapsPlaced}
-use Rattle.ob_positions.specs.Store.{Activation}
-use Rattle.ob_text_history_reading.specs.HistoryLines.{HistoryTold, IsHistoryFault, IsHistoryText, IsOfOne}
-use Rattle.ob_text_history_reading.specs.Names.{AreApart, AreBelow, named, named_all}
-use Rattle.ob_text_record_reading.specs.declared.reading.RecordFault.{RecordFault}
-use Rattle.ob_text_record_reading.specs.declared.reading.RecordFault.TheVariants as Reading
+use Rattle.ob_object_calls.proofs.Beginnings.{no_trap, one_state}
+use Rattle.ob_object_calls.specs.Beginnings.{BeginsPlaced, IsBeginningFault, TrapsPlaced}
+use Rattle.ob_meaning.specs.ByPositionStore.{Activation}
+use Rattle.ob_text_reading.specs.HistoryLines.{HistoryTold, IsHistoryFault, IsHistoryText, IsOfOne}
+use Rattle.ob_text_reading.specs.Names.{AreApart, AreBelow, named, named_all}
+use Rattle.ob_text_reading.specs.declared.record_reading.RecordFault.{RecordFault}
+use Rattle.ob_text_reading.specs.declared.record_reading.RecordFault.TheVariants as Reading
 use Rattle.ob_typing.specs.Program.{Program}
 use Rattle.wf_history.specs.History.{Event, own_events}
 use Rattle.wf_history.specs.Legal.{IsLegal}
 use Rattle.wf_history.specs.declared.event.CallId.{CallId}
-use Rattle.wf_needed.specs.Needed.{IsOpen}
+use Rattle.wf_order.specs.Needed.{IsOpen}
 use Rattle.wf_order.proofs.Bounds.{enough_more}
 use Rattle.wf_order.specs.Verdict.{HasLegal, HasMoreFront, enough}
 

@@ -7,12 +7,12 @@ use Rattle.std.proofs.lemmas.Option.{same_Some, slice_get-get_or, slice_get-map}
 use Rattle.std.specs.List.{slice_get, Contains}
 use Rattle.std.specs.Prelude.{Option, nat_eq}
 use Rattle.ob_interface.specs.Call.{ObjectCall, Reply}
-use Rattle.ob_text_history_reading.specs.Names.{AreApart, AreBelow, named, named_all, named_id}
+use Rattle.ob_text_reading.specs.Names.{AreApart, AreBelow, named, named_all, named_id}
 use Rattle.wf_history.proofs.Positions.{contains_at, place_behind, place_here, place_left, place_of, place_take, same_call}
 use Rattle.wf_history.specs.declared.event.CallId.{CallId}
 use Rattle.wf_history.specs.History.{Event, Begin, Applied, End, Before}
 use Rattle.wf_history.specs.Legal.{HasBegun, IsLegal, NoRepeats, OneAtATime, RepliesAgree, more, none}
-use Rattle.wf_needed.specs.Needed.{NoneIsNeedless}
+use Rattle.wf_order.specs.Needed.{NoneIsNeedless}
 use Rattle.wf_order.proofs.Places.{before_at, places_before}
 use Rattle.wf_order.specs.Verdict.{HasLegal, IsLastLegal}
 

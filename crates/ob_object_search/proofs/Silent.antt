@@ -4,11 +4,11 @@ use Rattle.std.specs.Prelude.{Bool, slice_get, Some}
 use Rattle.std.specs.Coded.{Coded-set, coded_list, coded_ℕ}
 use Rattle.std.proofs.Math.Logic.{∥∥₁_elim}
 use Rattle.ob_interface.specs.Call.{ObjectCall, Reply}
-use Rattle.ob_object_order.specs.LegalOrder.{CallEnds}
+use Rattle.ob_object_run.specs.LegalOrder.{CallEnds}
 use Rattle.ob_object_search.specs.Laws.{words_told_apart}
 use Rattle.ob_object_search.specs.Words.{words_of}
-use Rattle.ob_positions.specs.Store.{Activation}
-use Rattle.ob_read_only.specs.ReadOnly.{TellsReadOnly}
+use Rattle.ob_meaning.specs.ByPositionStore.{Activation}
+use Rattle.ob_carry.specs.ReadOnly.{TellsReadOnly}
 use Rattle.ob_typing.specs.Program.{Program}
 
 told_at : (told : List Bool) (k : ℕ) → get_or told k false ≡ true → slice_get told k ≡ Some true

@@ -1,16 +1,16 @@
 -- What is found of a module's text and of a history of its program's object, as what is answered of both texts.
 use Rattle.std.proofs.Common.{◌≡◌, ◌≢◌, List, ◌++◌, ℕ, Option, Result, Ok, Err, IfErr, ◌⊎◌, inl, inr, refl, subst}
-use Rattle.ob_check_text.specs.CheckedText.{IsNumberedText, IsTextFault, TellsTextMemoryApart}
-use Rattle.ob_check_text.specs.declared.checked_text.TextFault.{TextFault}
-use Rattle.ob_check_text.specs.declared.checked_text.TextFault.TheVariants as Text
-use Rattle.ob_object_order.specs.LegalOrder.{CallEnds}
+use Rattle.ob_check.specs.CheckedText.{IsNumberedText, IsTextFault, TellsTextMemoryApart}
+use Rattle.ob_check.specs.declared.checked_text.TextFault.{TextFault}
+use Rattle.ob_check.specs.declared.checked_text.TextFault.TheVariants as Text
+use Rattle.ob_object_run.specs.LegalOrder.{CallEnds}
 use Rattle.ob_object_search.proofs.Crossing.{fault_named, order_named, order_placed}
 use Rattle.ob_object_search.specs.Searched.{HasEnough, HasNoneNeedless, HasOpen, HasOrder, IsEnough, IsLegalOrder, IsOpenCall, NoneIsNeedless}
 use Rattle.ob_object_search.specs.SearchFaults.{HasSearchFault, IsFaultOfHistory, IsSearchFault, IsUndecided, TellsMemoryApart, of_text}
 use Rattle.ob_object_search.specs.declared.searching.SearchFault.{SearchFault}
 use Rattle.ob_object_search.specs.declared.searching.SearchFault.TheVariants as Faults
-use Rattle.ob_object_verify.proofs.Openings.{module_resolved}
-use Rattle.ob_object_verify.specs.Beginnings.{BeginsPlaced, TrapsPlaced}
+use Rattle.ob_object_calls.proofs.Openings.{module_resolved}
+use Rattle.ob_object_calls.specs.Beginnings.{BeginsPlaced, TrapsPlaced}
 use Rattle.ob_typing.specs.ModuleText.{IsModule}
 use Rattle.ob_typing.specs.Program.{Program}
 use Rattle.wf_history.specs.declared.event.CallId.{CallId}

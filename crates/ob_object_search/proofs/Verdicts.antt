@@ -1,19 +1,19 @@
 -- What a search comes to by small numbers, as what is answered by names.
 use Rattle.std.proofs.Common.{◌≡◌, ◌∙◌, ◌≤◌, ℕ, List, Vec, Global, length, map, sym, ap, subst, inl, inr, refl}
 use Rattle.ob_interface.specs.Call.{ObjectCall, Reply}
-use Rattle.ob_object_order.specs.LegalOrder.{CallEnds}
+use Rattle.ob_object_run.specs.LegalOrder.{CallEnds}
 use Rattle.ob_object_search.proofs.Renamed.{has_unnamed, last_named, legal_named, needless_named}
 use Rattle.ob_object_search.specs.Found.{HasOrderHere, IsEnoughHere, IsFaultHere, IsNeededHere}
 use Rattle.ob_object_search.specs.SearchFaults.{CeasesAt, TellsMemoryApart}
 use Rattle.ob_object_search.specs.declared.searching.SearchFault.{SearchFault}
 use Rattle.ob_object_search.specs.declared.searching.SearchFault.TheVariants as Faults
-use Rattle.ob_positions.specs.Store.{Activation}
-use Rattle.ob_text_history_reading.specs.Names.{AreApart, AreBelow, IsBelow, named_all, named_id}
+use Rattle.ob_meaning.specs.ByPositionStore.{Activation}
+use Rattle.ob_text_reading.specs.Names.{AreApart, AreBelow, IsBelow, named_all, named_id}
 use Rattle.ob_typing.specs.Program.{Program}
 use Rattle.wf_history.specs.History.{Event, Begin, Applied, End}
 use Rattle.wf_history.specs.Legal.{IsLegal}
 use Rattle.wf_history.specs.declared.event.CallId.{CallId}
-use Rattle.wf_needed.specs.Needed.{NoneIsNeedless}
+use Rattle.wf_order.specs.Needed.{NoneIsNeedless}
 use Rattle.wf_order.specs.Rows.{AreOfProcesses, IsOfProcesses}
 use Rattle.wf_order.specs.Verdict.{IsVerdict, enough}
 use Rattle.wf_order.specs.declared.find.Verdict.{Verdict}

@@ -1,9 +1,9 @@
 -- Law: the order that is found, put into a record, is verified.
 use Rattle.std.specs.Prelude.{◌≡◌, ℕ, List, Option}
 use Rattle.ob_object_search.specs.Searched.{IsLegalOrder, budget_of}
-use Rattle.ob_object_verify.specs.Verified.{IsVerified}
-use Rattle.ob_text_history_reading.specs.HistoryLines.{HistoryTold, IsHistoryText}
-use Rattle.ob_text_record_reading.specs.RecordLines.{IsRecord, Told}
+use Rattle.ob_object_calls.specs.Verified.{IsVerified}
+use Rattle.ob_text_reading.specs.HistoryLines.{HistoryTold, IsHistoryText}
+use Rattle.ob_text_reading.specs.RecordLines.{IsRecord, Told}
 use Rattle.ob_typing.specs.ModuleText.{IsModule}
 use Rattle.ob_typing.specs.Program.{Program}
 use Rattle.wf_history.specs.declared.event.CallId.{CallId}

@@ -1,12 +1,12 @@
 -- The code of a module.
 use Rattle.std.specs.Prelude.{◌≡◌, ℕ, List, map, Option, Some, None}
 use Rattle.ob_code_calls.specs.Parts.{parts_in}
-use Rattle.ob_code_law.specs.Compiled.{parts_of}
+use Rattle.ob_code_correct.specs.Compiled.{parts_of}
 use Rattle.ob_code_calls.specs.Scalars.{held_of}
 use Rattle.ob_interface.specs.Call.{ObjectCall}
 use Rattle.ob_interface.specs.View.{reply_of}
 use Rattle.ob_interface.specs.declared.scalar.Scalar.{Scalar}
-use Rattle.ob_object_order.specs.LegalOrder.{CallEnds}
+use Rattle.ob_object_run.specs.LegalOrder.{CallEnds}
 use Rattle.ob_object_search.specs.declared.coded.Made.{Made}
 use Rattle.ob_object_search.specs.declared.coded.ModuleCode.{ModuleCode}
 use Rattle.ob_typing.specs.Program.{Program}

@@ -1,17 +1,17 @@
 -- What is found of a history, where processes go by small numbers and have these names.
 use Rattle.std.specs.Prelude.{ℕ, ◌≤◌, List, length}
 use Rattle.ob_interface.specs.Call.{ObjectCall, Reply}
-use Rattle.ob_object_order.specs.LegalOrder.{CallEnds}
+use Rattle.ob_object_run.specs.LegalOrder.{CallEnds}
 use Rattle.ob_object_search.specs.SearchFaults.{CeasesAt}
 use Rattle.ob_object_search.specs.declared.searching.SearchFault.{SearchFault}
 use Rattle.ob_object_search.specs.declared.searching.SearchFault.TheVariants as Faults
-use Rattle.ob_positions.specs.Store.{Activation}
-use Rattle.ob_text_history_reading.specs.Names.{named_all}
+use Rattle.ob_meaning.specs.ByPositionStore.{Activation}
+use Rattle.ob_text_reading.specs.Names.{named_all}
 use Rattle.ob_typing.specs.Program.{Program}
 use Rattle.wf_history.specs.declared.event.CallId.{CallId}
 use Rattle.wf_history.specs.History.{Event}
 use Rattle.wf_history.specs.Legal.{IsLegal}
-use Rattle.wf_needed.specs.Needed.{NoneIsNeedless}
+use Rattle.wf_order.specs.Needed.{NoneIsNeedless}
 use Rattle.wf_order.specs.Verdict.{HasMoreFront, enough}
 
 -- by what calls with a budget do from a state

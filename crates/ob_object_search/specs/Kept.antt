@@ -3,7 +3,7 @@ use Rattle.std.specs.Prelude.{map}
 use Rattle.ob_code_calls.specs.Scalars.{held_of}
 use Rattle.ob_object_search.specs.declared.kept.KeptState.{KeptState}
 use Rattle.ob_object_search.specs.declared.kept.KeptState.TheVariants as States
-use Rattle.ob_positions.specs.Store.{Activation}
+use Rattle.ob_meaning.specs.ByPositionStore.{Activation}
 use Rattle.ob_store.specs.View.{variables_in}
 
 abbrev pub kept_in : KeptState → Activation

@@ -4,11 +4,11 @@ use Rattle.std.specs.Prelude.{pos, negsuc, true, false}
 use Rattle.ob_interface.specs.Call.{ObjectCall, Reply}
 use Rattle.ob_interface.specs.declared.scalar.Scalar.{Scalar}
 use Rattle.ob_interface.specs.declared.scalar.Scalar.TheVariants.{Int, Bool as Truth}
-use Rattle.ob_object_order.specs.LegalOrder.{CallEnds}
+use Rattle.ob_object_run.specs.LegalOrder.{CallEnds}
 use Rattle.ob_object_search.specs.Words.{word_of, count_of, value_words, parts_words, held_words, words_of}
-use Rattle.ob_positions.specs.Object.{Effect}
-use Rattle.ob_positions.specs.Store.{Activation, Held, Holds, Refers, Place}
-use Rattle.ob_positions.specs.Value as Values
+use Rattle.ob_meaning.specs.ByPositionObject.{Effect}
+use Rattle.ob_meaning.specs.ByPositionStore.{Activation, Held, Holds, Refers, Place}
+use Rattle.ob_meaning.specs.ByPositionValue as Values
 use Rattle.ob_typing.specs.Program.{Program}
 
 module _ (program : Program) (budget : ℕ) (call : ObjectCall) (before after other : Activation) (reply answer : Reply) where

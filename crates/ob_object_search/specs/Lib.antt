@@ -1,8 +1,16 @@
 pub mod Agreeing
 pub mod Code
+pub mod Evidence
 pub mod Found
+pub mod Heard
+pub mod Here
 pub mod Kept
 pub mod Laws
+pub mod Parted
+pub mod PartedFaults
+pub mod RecordingFaults
 pub mod SearchFaults
+pub mod SearchRecords
 pub mod Searched
+pub mod View
 pub mod Words

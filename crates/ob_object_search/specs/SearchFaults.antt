@@ -1,23 +1,23 @@
 -- What each fault says of the bytes of a module and of a history.
 use Rattle.std.specs.Prelude.{◌≡◌, ◌≢◌, ◌⊎◌, ℕ, List, length, Option, Result, IfErr}
-use Rattle.ob_check_text.specs.CheckedText.{IsNumberedText, IsTextFault}
-use Rattle.ob_check_text.specs.declared.checked_text.TextFault.{TextFault}
-use Rattle.ob_check_text.specs.declared.checked_text.TextFault.TheVariants as Text
-use Rattle.ob_code_law.specs.Named.{CallMeans}
+use Rattle.ob_check.specs.CheckedText.{IsNumberedText, IsTextFault}
+use Rattle.ob_check.specs.declared.checked_text.TextFault.{TextFault}
+use Rattle.ob_check.specs.declared.checked_text.TextFault.TheVariants as Text
+use Rattle.ob_code_correct.specs.Named.{CallMeans}
 use Rattle.ob_interface.specs.Call.{ObjectCall, Reply}
-use Rattle.ob_interpreter.specs.declared.opening.OpenFault.{OpenFault}
-use Rattle.ob_interpreter.specs.declared.opening.OpenFault.TheVariants as Open
-use Rattle.ob_object_order.specs.LegalOrder.{CallEnds}
+use Rattle.ob_mean.specs.declared.opening.OpenFault.{OpenFault}
+use Rattle.ob_mean.specs.declared.opening.OpenFault.TheVariants as Open
+use Rattle.ob_object_run.specs.LegalOrder.{CallEnds}
 use Rattle.ob_object_search.specs.Searched.{HasBeginning, budget_of}
 use Rattle.ob_object_search.specs.declared.searching.SearchFault.{SearchFault}
 use Rattle.ob_object_search.specs.declared.searching.SearchFault.TheVariants as Faults
-use Rattle.ob_object_verify.specs.Beginnings.{BeginsNamed, BeginsPlaced, TrapsNamed}
-use Rattle.ob_positions.specs.Store.{Activation}
+use Rattle.ob_object_calls.specs.Beginnings.{BeginsNamed, BeginsPlaced, TrapsNamed}
+use Rattle.ob_meaning.specs.ByPositionStore.{Activation}
 use Rattle.ob_scan.specs.declared.fault.ScanFault.TheVariants as Scan
-use Rattle.ob_text_history_reading.specs.HistoryLines.{HistoryTold, IsHistoryFault, IsHistoryText}
-use Rattle.ob_text_history_reading.specs.Names.{AreApart, AreBelow, named_all}
-use Rattle.ob_text_record_reading.specs.declared.reading.RecordFault.{RecordFault}
-use Rattle.ob_text_record_reading.specs.declared.reading.RecordFault.TheVariants as Reading
+use Rattle.ob_text_reading.specs.HistoryLines.{HistoryTold, IsHistoryFault, IsHistoryText}
+use Rattle.ob_text_reading.specs.Names.{AreApart, AreBelow, named_all}
+use Rattle.ob_text_reading.specs.declared.record_reading.RecordFault.{RecordFault}
+use Rattle.ob_text_reading.specs.declared.record_reading.RecordFault.TheVariants as Reading
 use Rattle.ob_typing.specs.ModuleText.{IsModule}
 use Rattle.ob_typing.specs.Program.{Program}
 use Rattle.wf_history.specs.declared.event.CallId.{CallId}

@@ -1,15 +1,15 @@
 -- Legal orders that are found: from the bytes of a module and of a history of its object.
 use Rattle.std.specs.Prelude.{◌≡◌, ◌≤◌, ℕ, List, ◌∷◌, ◌++◌, Option, Some, None, All, length}
-use Rattle.ob_code_law.specs.Named.{CallMeans}
+use Rattle.ob_code_correct.specs.Named.{CallMeans}
 use Rattle.ob_interface.specs.Call.{ObjectCall, Reply}
-use Rattle.ob_object_verify.specs.Beginnings.{BeginsNamed}
-use Rattle.ob_positions.specs.Store.{Activation}
-use Rattle.ob_text_history_reading.specs.HistoryLines.{HistoryTold, IsHistoryText, IsOfOne}
+use Rattle.ob_object_calls.specs.Beginnings.{BeginsNamed}
+use Rattle.ob_meaning.specs.ByPositionStore.{Activation}
+use Rattle.ob_text_reading.specs.HistoryLines.{HistoryTold, IsHistoryText, IsOfOne}
 use Rattle.ob_typing.specs.ModuleText.{IsModule}
 use Rattle.ob_typing.specs.Program.{Program}
 use Rattle.wf_history.specs.declared.event.CallId.{CallId}
 use Rattle.wf_history.specs.Legal.{IsLegal}
-use Rattle.wf_needed.specs.Needed.{IsOpen}
+use Rattle.wf_order.specs.Needed.{IsOpen}
 use Rattle.wf_order.specs.Verdict.{enough}
 
 -- how many turns each call has: so many as are asked for, or else as the history tells, or else this many

@@ -2,8 +2,8 @@
 use Rattle.std.specs.Prelude.{ℕ, zero, suc, pos, negsuc, ◌+◌, ◌*◌, List, [], ◌∷◌, ◌++◌, length, if◌then◌else◌}
 use Rattle.ob_interface.specs.declared.scalar.Scalar.{Scalar}
 use Rattle.ob_interface.specs.declared.scalar.Scalar.TheVariants.{Int, Bool as Truth}
-use Rattle.ob_positions.specs.Store.{Activation, Held, Holds, Refers}
-use Rattle.ob_positions.specs.Value as Values
+use Rattle.ob_meaning.specs.ByPositionStore.{Activation, Held, Holds, Refers}
+use Rattle.ob_meaning.specs.ByPositionValue as Values
 
 -- A word that begins something tells by its rest modulo 8 what that is: 0 an INTEGER that is not negative, 1 a negative one,
 -- 2 a BOOLEAN, 3 parts, 4 a place of others. A scalar is that one word.

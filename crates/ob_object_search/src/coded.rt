@@ -3,21 +3,21 @@
 ghost use Rattle.std.specs.Prelude.{◌≡◌, ℕ, IfOk, IfSome};
 ghost use Rattle.ob_checked.specs.CheckedModule.{program_in};
 ghost use Rattle.ob_code_calls.specs.Parts.{parts_in, IsRoomFor};
-ghost use Rattle.ob_code_law.specs.Compiled.{IsFitting, parts_of};
+ghost use Rattle.ob_code_correct.specs.Compiled.{IsFitting, parts_of};
 ghost use Rattle.ob_interface.specs.View.{call_of};
 ghost use Rattle.ob_object_search.specs.Code.{HasCode, IsCodeOf, IsMadeBy};
 ghost use Rattle.wf_history.specs.View.{seen_call};
 
 use ob_checked::checked::Checked;
+use ob_code::generation::generate;
 use ob_code_calls::scalars::{Scalars, are_scalars, lay_scalars, read_scalars};
 use ob_code_calls::{CodeCalls, Room};
-use ob_code_generate::generation::generate;
-use ob_code_layout::Layout;
+use ob_code_correct::well_formed_laws::checked_is_well_formed;
 use ob_code_machine::CodeFault;
-use ob_code_well_formed::laws::checked_is_well_formed;
 use ob_interface::NoMemory;
 use ob_interface::call::{Call, Reply};
 use ob_interface::scalar::Scalar;
+use ob_layout::Layout;
 use smallvec::SmallVec;
 use std::alloc::{AllocError, Global};
 use std::cell::Cell;

@@ -3,9 +3,9 @@
 ghost use Rattle.std.specs.Prelude.{◌≡◌, IfOk};
 ghost use Rattle.ob_checked.specs.CheckedModule.{program_in};
 ghost use Rattle.ob_interface.specs.View as Objects;
-ghost use Rattle.ob_interpreter.specs.View.{call_of, reply_of};
-ghost use Rattle.ob_object_order.specs.LegalOrder.{CallEnds};
-ghost use Rattle.ob_read_only.specs.ReadOnly.{TellsReadOnly};
+ghost use Rattle.ob_mean.specs.View.{call_of, reply_of};
+ghost use Rattle.ob_object_run.specs.LegalOrder.{CallEnds};
+ghost use Rattle.ob_carry.specs.ReadOnly.{TellsReadOnly};
 ghost use Rattle.ob_object_search.specs.Code.{IsCodeOf};
 ghost use Rattle.ob_object_search.specs.Kept.{kept_in};
 ghost use Rattle.ob_store.specs.View.{state_of};
@@ -13,12 +13,12 @@ ghost use Rattle.wf_history.specs.View.{seen_call};
 
 use crate::coded::{ModuleCode, module_code};
 use crate::kept::{KeptState, kept};
+use ob_carry::exports::read_only_exports;
 use ob_checked::checked::Checked;
 use ob_interface::NoMemory;
 use ob_interface::call::Reply;
-use ob_interpreter::call as interpreter;
-use ob_interpreter::object::step;
-use ob_read_only::exports::read_only_exports;
+use ob_mean::call as interpreter;
+use ob_mean::object::step;
 use ob_store::state::State;
 use smallvec::SmallVec;
 use std::alloc::{AllocError, Global};
@@ -117,7 +117,7 @@ fn called(
 impl<'a> ModuleObject<'a> {
     ghost use Rattle.std.specs.Prelude.{◌≡◌, IfOk, IfSome, map};
     ghost use Rattle.ob_checked.specs.CheckedModule.{program_in};
-    ghost use Rattle.ob_object_order.specs.LegalOrder.{CallEnds};
+    ghost use Rattle.ob_object_run.specs.LegalOrder.{CallEnds};
     ghost use Rattle.ob_object_search.specs.Kept.{kept_in};
     ghost use Rattle.ob_interface.specs.View as Objects;
     ghost use Rattle.wf_history.specs.View.{seen_call};
@@ -145,11 +145,11 @@ impl<'a> ModuleObject<'a> {
 
 impl<'a> Object for ModuleObject<'a> {
     ghost use Rattle.ob_checked.specs.CheckedModule.{program_in};
-    ghost use Rattle.ob_object_order.specs.LegalOrder.{CallEnds};
+    ghost use Rattle.ob_object_run.specs.LegalOrder.{CallEnds};
     ghost use Rattle.ob_object_search.specs.Laws.{one_outcome, words_told_apart};
     ghost use Rattle.ob_object_search.specs.Kept.{kept_in};
     ghost use Rattle.ob_object_search.specs.Words.{words_of};
-    ghost use Rattle.ob_positions.specs.Store.{Activation};
+    ghost use Rattle.ob_meaning.specs.ByPositionStore.{Activation};
     ghost use Rattle.ob_store.specs.View.{state_of};
 
     type State = KeptState;

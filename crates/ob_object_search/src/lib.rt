@@ -1,16 +1,29 @@
-//! A search for a legal order of a history of calls on a module's object, from the bytes of a module and of the history.
+//! A search for a legal order of a history of calls on a module's object, from the bytes of a module and of the history: the order, the record
+//! with it, what shows that there is none, and the orders of the parts of a history on many objects (Herlihy and Wing's locality).
 //!
-//! One may rely on the clauses of `search_text`, which are in the words of `specs/Searched.antt` and `specs/SearchFaults.antt`,
-//! of `order_found`, and of `ModuleObject` on those of `wf_order::Object`. Which words a state has may change without asking.
+//! One may rely on the clauses of `search_text`, `order_found`, `record_of_text`, `evidence_of_text` and `search_parts_text`. Which words a state
+//! has, and which replies are tried as evidence, may change without asking.
 #![tactic(auto)]
 
+mod candidates;
 mod coded;
+pub mod copying;
+mod ending;
+pub mod fault;
 pub mod instance;
 pub mod kept;
 pub mod laws;
+pub mod parts_searching;
+mod possible;
+pub mod recording;
 pub mod searching;
+pub mod showing;
 mod words;
 
+pub use fault::PartsFault;
 pub use instance::ModuleObject;
 pub use kept::KeptState;
+pub use parts_searching::{Part, search_parts_text};
+pub use recording::{RecordingFault, record_of_text};
 pub use searching::{Search, SearchFault, search_text};
+pub use showing::{Evidence, evidence_of_text};

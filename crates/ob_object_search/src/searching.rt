@@ -2,31 +2,29 @@
 
 ghost use Rattle.std.specs.Prelude.{◌≡◌, ◌≢◌, ◌<◌, ◌≤◌, ℕ, List, Err, IfOk, IfErr, length, map};
 ghost use Rattle.ob_checked.specs.CheckedModule.{program_in};
-ghost use Rattle.ob_object_order.specs.LegalOrder.{CallEnds};
+ghost use Rattle.ob_object_run.specs.LegalOrder.{CallEnds};
 ghost use Rattle.ob_object_search.specs.Found.{HasOrderHere, IsFaultHere, IsEnoughHere, IsNeededHere};
 ghost use Rattle.ob_object_search.specs.Searched.{HasEnough, HasOrder, HasNoneNeedless, IsEnough, IsLegalOrder, NoneIsNeedless, budget_of};
 ghost use Rattle.ob_object_search.specs.SearchFaults.{HasSearchFault, IsNumbered, IsSearchFault, IsUndecided, TellsMemoryApart, too_long};
 ghost use Rattle.ob_object_search.specs.declared.searching.SearchFault.TheVariants as Faults;
-ghost use Rattle.ob_object_verify.specs.Beginnings.{BeginsPlaced, TrapsPlaced};
+ghost use Rattle.ob_object_calls.specs.Beginnings.{BeginsPlaced, TrapsPlaced};
 ghost use Rattle.ob_store.specs.View.{state_of};
-ghost use Rattle.ob_text_history_reading.specs.Names.{AreApart, AreBelow, named_id};
+ghost use Rattle.ob_text_reading.specs.Names.{AreApart, AreBelow, named_id};
 ghost use Rattle.wf_history.specs.declared.event.CallId.{CallId};
 
 use crate::instance::ModuleObject;
-use ob_check_text::checked_text::{TextFault, checked_text};
+use ob_check::checked_text::{TextFault, checked_text};
 use ob_checked::checked::Checked;
 use ob_interface::NoMemory;
-use ob_interpreter::opening::OpenFault;
-use ob_object_verify::beginning::beginning;
+use ob_mean::opening::OpenFault;
+use ob_object_calls::beginning::beginning;
 use ob_scan::scanner::LONGEST_TEXT;
-use ob_text_history_reading::{ReadHistory, read_history};
-use ob_text_record_reading::RecordFault;
+use ob_text_reading::{ReadHistory, RecordFault, read_history};
 use std::alloc::{AllocError, Global};
 use std::hash::RandomState;
 use thiserror::Error;
 use wf_history::{CallId, History};
-use wf_needed::needed_order;
-use wf_order::{Verdict, find_order};
+use wf_order::{Verdict, find_order, needed_order};
 
 /// What a search is to go by.
 #[derive(Clone, Copy)]

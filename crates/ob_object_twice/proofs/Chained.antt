@@ -1,10 +1,10 @@
 -- Calls that are made one at a time, and others behind them.
 use Rattle.std.proofs.Common.{◌≡◌, ◌∙◌, ℕ, List, [], ◌∷◌, ◌++◌, refl, ap, ap₂, sym, subst}
-use Rattle.ob_agreement.specs.Same.{SameState}
-use Rattle.ob_code_law.specs.Named.{CallMeans}
+use Rattle.ob_meaning.specs.Same.{SameState}
+use Rattle.ob_code_correct.specs.Named.{CallMeans}
 use Rattle.ob_interface.specs.Call.{ObjectCall, Reply}
-use Rattle.ob_meaning.specs.Object.{Effect, State, effect, replies_to, state_behind}
-use Rattle.ob_object_record.specs.Record.{Record}
+use Rattle.ob_meaning.specs.ByNameObject.{Effect, State, effect, replies_to, state_behind}
+use Rattle.ob_text_record.specs.Record.{Record}
 use Rattle.ob_object_run.specs.Recorded.{IsMeantOrder}
 use Rattle.ob_object_twice.specs.Twice.{AreCallsOf, IsMeantTwice}
 use Rattle.ob_typing.specs.Program.{Program}

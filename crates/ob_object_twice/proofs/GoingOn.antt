@@ -1,17 +1,17 @@
 -- A run that goes on from the state of another one.
 use Rattle.std.proofs.Common.{◌≡◌, ◌∙◌, ℕ, List, true, false, inl, inr, ap, sym, subst}
 use Rattle.std.proofs.Math.Logic.{∥∥₁_elim, ∥∥₁_map, ∥∥₁_prop}
-use Rattle.ob_agreement.specs.Same.{SameState}
+use Rattle.ob_meaning.specs.Same.{SameState}
 use Rattle.ob_carry.proofs.Carried.{one_state}
 use Rattle.ob_carry.specs.Carried.{Entry, carried}
-use Rattle.ob_carry_back.specs.Told.{CarryBack}
-use Rattle.ob_meaning.specs.Object.{State}
+use Rattle.ob_carry.specs.NamedValues.{CarryBack}
+use Rattle.ob_meaning.specs.ByNameObject.{State}
 use Rattle.ob_object_compile.specs.Compilation.{IsShort}
 use Rattle.ob_object_perform.specs.Performance.{IsPerformance, IsRefusal}
 use Rattle.ob_object_perform.specs.Texts.{Texts}
 use Rattle.ob_object_perform.specs.declared.performing.PerformFault.{PerformFault}
 use Rattle.ob_object_perform.specs.declared.performing.PerformFault.TheVariants as Faults
-use Rattle.ob_object_record.specs.Record.{Record}
+use Rattle.ob_text_record.specs.Record.{Record}
 use Rattle.ob_object_run.specs.Recorded.{IsMeantOrder}
 use Rattle.ob_object_twice.proofs.Chained.{meant_twice}
 use Rattle.ob_object_twice.specs.Twice.{AreMeantInTurn, GoesOn, IsRefusedTwice, Turn, first_texts, second_texts}

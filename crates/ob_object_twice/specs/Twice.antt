@@ -1,16 +1,16 @@
 -- Two runs of a module's object, one after the other.
 use Rattle.std.specs.Prelude.{◌≡◌, ◌⊎◌, ℕ, List, [], ◌∷◌, ◌++◌}
-use Rattle.ob_agreement.specs.Same.{SameState}
+use Rattle.ob_meaning.specs.Same.{SameState}
 use Rattle.ob_carry.specs.Carried.{Entry}
-use Rattle.ob_carry_back.specs.Told.{CarryBack}
+use Rattle.ob_carry.specs.NamedValues.{CarryBack}
 use Rattle.ob_interface.specs.Call.{ObjectCall, Reply}
-use Rattle.ob_meaning.specs.Object.{State, replies_to, state_behind}
+use Rattle.ob_meaning.specs.ByNameObject.{State, replies_to, state_behind}
 use Rattle.ob_object_compile.specs.Asked.{by_body, by_values}
 use Rattle.ob_object_compile.specs.Compilation.{IsShort}
 use Rattle.ob_object_perform.specs.Performance.{IsPerformance, IsRefusal}
 use Rattle.ob_object_perform.specs.Texts.{Texts, run_texts}
 use Rattle.ob_object_perform.specs.declared.performing.PerformFault.{PerformFault}
-use Rattle.ob_object_record.specs.Record.{Record}
+use Rattle.ob_text_record.specs.Record.{Record}
 use Rattle.ob_object_twice.specs.declared.twice.Turn as Rust
 use Rattle.ob_typing.specs.Program.{Program}
 use Rattle.wf_history.specs.declared.event.CallId.{CallId}

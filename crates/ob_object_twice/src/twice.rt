@@ -3,13 +3,13 @@
 ghost use Rattle.std.specs.Prelude.{◌≡◌, Err, IfErr, IfOk};
 ghost use Rattle.ob_object_compile.specs.Asked.{TellsAtOnce, by_body};
 ghost use Rattle.ob_object_perform.specs.Performance.{IsPerformance};
-ghost use Rattle.ob_object_record.specs.Record.{record_of};
+ghost use Rattle.ob_text_record.specs.Record.{record_of};
 ghost use Rattle.ob_object_twice.specs.Twice.{AreMeantInTurn, GoesOn, IsRefusedTwice, first_texts, turn_of};
 
-use ob_carry_back::named_values;
+use ob_carry::named_values;
 use ob_object_compile::{Asked, Beginning};
 use ob_object_perform::{PerformFault, Texts, perform_from, performed};
-use ob_object_record::Record;
+use ob_text_record::Record;
 use std::alloc::Global;
 
 /// What one of the runs is made of: how many processes share the object, the scripts of their calls, and the schedule.

@@ -12,7 +12,7 @@ use Rattle.ob_grammar.specs.Conditions.{differing, in_expr, in_type, in_constant
 use Rattle.ob_parser.specs.Reading.{Form, Sequel, behind_part, Stops, Reads, kind_at}
 use Rattle.ob_parser.specs.Forms as forms
 use Rattle.ob_parser.specs.Forms.{token, opens, Both, both, linked}
-use Rattle.ob_parser_source.specs.Sources.{State}
+use Rattle.ob_scan.specs.Sources.{State}
 use Rattle.ob_parser.specs.Answers.{Went}
 use Rattle.ob_parser.proofs.Steps.{Leads, Follows, Fills, Begins, Passes, takes_same, no_takes_same, same_token, stops_at, not_stopped, nothing_stops, weaker, before, closed, across, across_last, fill_token, fill_both}
 use Rattle.ob_parser.proofs.Phrases.{Optional, Repeated, Listed, begins_part, fill_perhaps, fill_word, passes_perhaps}

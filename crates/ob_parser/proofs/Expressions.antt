@@ -16,7 +16,7 @@ use Rattle.ob_grammar.specs.Conditions.{opening, in_expr, in_operands}
 use Rattle.ob_parser.specs.Reading.{Form, Stops, Reads, unexpected, Refuses, kind_at, place_at}
 use Rattle.ob_parser.specs.Forms as forms
 use Rattle.ob_parser.specs.Forms.{token, opens, Both, both, simple_goes_on, expression_goes_on}
-use Rattle.ob_parser_source.specs.Sources.{State, Steps}
+use Rattle.ob_scan.specs.Sources.{State, Steps}
 use Rattle.ob_parser.specs.ParseFaults.{lexemes_of}
 use Rattle.ob_parser.specs.Answers.{IsAt, IsSpelledAt, place_here, Went}
 use Rattle.ob_parser.proofs.States.{at_here, place_there, went_one}

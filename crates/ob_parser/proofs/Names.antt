@@ -11,7 +11,7 @@ use Rattle.ob_grammar.specs.Grammar.{Lexemes, TakesAt, takes, TakesName}
 use Rattle.ob_grammar.specs.Conditions.{Breach, name_differs, differing}
 use Rattle.ob_parser.specs.Reading.{Reads, breaks, Refuses, kind_at, place_at}
 use Rattle.ob_parser.specs.Forms as forms
-use Rattle.ob_parser_source.specs.Sources.{State, Steps}
+use Rattle.ob_scan.specs.Sources.{State, Steps}
 use Rattle.ob_parser.specs.ParseFaults.{lexemes_of}
 use Rattle.ob_parser.specs.Answers.{IsAt, IsSpelledAt, place_here, Went}
 use Rattle.ob_parser.proofs.States.{at_here, place_there, went_one}

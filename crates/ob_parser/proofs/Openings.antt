@@ -13,7 +13,7 @@ use Rattle.ob_grammar.specs.Conditions.{Breach, too_deep, opening}
 use Rattle.ob_parser.specs.Reading.{Form, breaks, Refuses, kind_at, place_at}
 use Rattle.ob_parser.specs.Forms.{token, opens, both}
 use Rattle.ob_scan.specs.Tokens.{TokenizedText}
-use Rattle.ob_parser_source.specs.Sources.{State, Stands}
+use Rattle.ob_scan.specs.Sources.{State, Stands}
 use Rattle.ob_parser.specs.ParseFaults.{lexemes_of, HasPlace}
 use Rattle.ob_parser.specs.Answers.{IsAt, place_here, Went, Fails}
 use Rattle.ob_parser.proofs.Steps.{Leads, Fills, takes_same, takes_at_only, same_place, same_before, drop_before, kind_within, alive_here, shorter, lexeme_there}

@@ -10,7 +10,7 @@ use Rattle.ob_grammar.specs.Grammar.{Lexemes, Phrase, TakesAt, IsRelation, IsAdd
 use Rattle.ob_parser.specs.Reading.{Form, Stops, Reads, kind_of, kind_at}
 use Rattle.ob_parser.specs.Forms as forms
 use Rattle.ob_parser.specs.Forms.{token, Both, both, selectors_go_on, term_goes_on, simple_goes_on, expression_goes_on}
-use Rattle.ob_parser_source.specs.Sources.{State}
+use Rattle.ob_scan.specs.Sources.{State}
 use Rattle.ob_parser.specs.Answers.{IsAt}
 use Rattle.ob_parser.proofs.Steps.{Leads, Follows, Fills, takes_same, no_takes_same, same_token, stops_at, not_stopped, weaker}
 use Rattle.ob_parser.proofs.Selectors.{ends_term, ends_simple}

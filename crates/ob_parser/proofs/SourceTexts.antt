@@ -6,7 +6,7 @@ use Rattle.ob_grammar.specs.Conditions.{KeepsConditions, breaches}
 use Rattle.ob_grammar.specs.Grammar.{Derives, Lexemes}
 use Rattle.ob_grammar.specs.Texts.{HasText, IsTextOf}
 use Rattle.ob_grammar.specs.Tree.{Module}
-use Rattle.ob_parser_source.specs.Scanned.{Scan, HasSomeTokens, scanned, Begins}
+use Rattle.ob_scan.specs.Scanned.{Scan, HasSomeTokens, scanned, Begins}
 use Rattle.ob_parser.specs.declared.parser.ParseFault.{ParseFault}
 use Rattle.ob_parser.specs.declared.parser.ParseFault.TheVariants.{Unexpected, TooDeep, NameDiffers, NoMemory}
 use Rattle.ob_parser.specs.ParseFaults.{lexemes_of, BreaksCondition, IsParseFault, IsParseFaultOf}

@@ -7,7 +7,7 @@ use Rattle.ob_scan.specs.Lexemes.{Lexeme, place_of}
 use Rattle.ob_scan.specs.Tokens.{TokenizedText}
 use Rattle.ob_grammar.specs.Conditions.{name_differs, too_deep}
 use Rattle.ob_grammar.proofs.Exits.{exits}
-use Rattle.ob_parser_source.specs.Sources.{State, Stands, Steps}
+use Rattle.ob_scan.specs.Sources.{State, Stands, Steps}
 use Rattle.ob_parser.specs.declared.parser.ParseFault.{ParseFault}
 use Rattle.ob_parser.specs.declared.parser.ParseFault.TheVariants.{Unexpected, TooDeep, NameDiffers, NoMemory}
 use Rattle.ob_parser.specs.ParseFaults.{lexemes_of, HasPlace}

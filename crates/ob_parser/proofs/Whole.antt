@@ -16,7 +16,7 @@ use Rattle.ob_scan.proofs.TokenFacts.{lexemes_spelled}
 use Rattle.ob_parser.specs.ParseFaults.{lexemes_of, BeginsGoodModule, HasPlace, BreaksCondition, IsParseFault}
 use Rattle.ob_parser.specs.Reading.{Same, Explains, breaks, Reads, Refuses, GoesOn, GoesOnWell, place_at}
 use Rattle.ob_parser.specs.Forms as forms
-use Rattle.ob_parser_source.specs.Sources.{State, Stands, lexeme_of}
+use Rattle.ob_scan.specs.Sources.{State, Stands, lexeme_of}
 use Rattle.ob_parser.specs.Answers.{place_of_fault, Went, Fails, ReadsModule, FailsModule}
 use Rattle.ob_parser.proofs.Steps.{same_before, drop_before, itself, nothing_stops}
 use Rattle.ob_parser.proofs.States.{fault_there}

@@ -19,7 +19,7 @@ use Rattle.ob_grammar.specs.Tree
 use Rattle.ob_grammar.specs.View.{module_of, name_of, expr_of, type_of, stmts_in, declarations_of, heading_with, heading_of, inner_of, body_of}
 use Rattle.ob_parser.specs.Forms as forms
 use Rattle.ob_grammar.specs.Tree.{OneFieldList, ProcedureTree}
-use Rattle.ob_parser_source.specs.Sources.{State, Stands}
+use Rattle.ob_scan.specs.Sources.{State, Stands}
 use Rattle.ob_grammar.specs.Conditions.{name_differs, too_deep, KeepsConditions}
 use Rattle.ob_grammar.specs.Grammar.{Derives}
 use Rattle.ob_grammar.specs.declared.tree.ModuleTree.{ModuleTree}

@@ -12,7 +12,7 @@ ghost use Rattle.ob_grammar.specs.Grammar.{Derives};
 ghost use Rattle.ob_grammar.specs.Conditions.{KeepsConditions};
 ghost use Rattle.ob_parser.specs.ParseFaults.{lexemes_of, IsParseFault};
 ghost use Rattle.ob_grammar.specs.View.{module_of};
-ghost use Rattle.ob_parser_source.specs.Sources.{Steps, lexeme_of};
+ghost use Rattle.ob_scan.specs.Sources.{Steps, lexeme_of};
 ghost use Rattle.ob_parser.specs.Forms as forms;
 ghost use Rattle.ob_parser.specs.Answers.{IsAt, place_here, place_of_fault, IsSpelledAt, Went, Answers};
 
@@ -24,9 +24,8 @@ mod statements;
 mod types;
 
 use ob_grammar::module::Module;
-use ob_parser_source::{ListedTokens, TokenSource};
 use ob_scan::token::LARGEST_NUMBER;
-use ob_scan::{Kind, Lent, Tokens};
+use ob_scan::{Kind, Lent, ListedTokens, TokenSource, Tokens};
 use std::alloc::{AllocError, AllocFailed, Global};
 use thiserror::Error;
 

@@ -16,13 +16,13 @@ ghost use Rattle.ob_rules.specs.Checking.{Fails, chain_of, chained, compared, co
 ghost use Rattle.ob_rules.specs.Checking.{designator_in, fielded, indexed, selector_before};
 ghost use Rattle.ob_rules.specs.FirstParts.{ElementLeadsTo, FieldLeadsTo, SelectorLeadsTo};
 
+use ob_checked::operators::type_of;
 use ob_checked::program::{Designator, Expression, Operation, Selector, Slot};
 use ob_checked::types::{DataType, Types};
+use ob_checked::written::{compares, operator_of, relation_of, same_scalar_type, takes_both};
 use ob_grammar::tree;
 use ob_grammar::tree::{Expr, Name, Operand, Operator, Sign};
 use ob_interface::scalar::{Scalar, ScalarType};
-use ob_scalars::operators::type_of;
-use ob_scalars::written::{compares, operator_of, relation_of, same_scalar_type, takes_both};
 use ob_scopes::constants::{
     Usage, behind, known, value_behind, value_compared, value_complement, value_signed,
 };

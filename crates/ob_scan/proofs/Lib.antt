@@ -1,8 +1,11 @@
 pub mod Comments
 pub mod FaultFacts
+pub mod Listings
+pub mod Looks
 pub mod Reached
 pub mod Runs
 pub mod Scanners
+pub mod Spelled
 pub mod Spellings
 pub mod Stands
 pub mod Symbols

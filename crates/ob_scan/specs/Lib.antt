@@ -1,7 +1,10 @@
+pub mod Lexemes
 pub mod Limits
+pub mod Listed
+pub mod ScanFaults
+pub mod Scanned
+pub mod Scanners
+pub mod Scanning
+pub mod Sources
 pub mod Spelling
 pub mod Tokens
-pub mod Lexemes
-pub mod ScanFaults
-pub mod Scanning
-pub mod Scanners

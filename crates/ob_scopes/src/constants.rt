@@ -1,15 +1,15 @@
 //! What is known of a value while a module is checked.
 
 ghost use Rattle.std.specs.Prelude.{◌≡◌, option_map};
-ghost use Rattle.ob_scalars.specs.Traps.{evaluated};
+ghost use Rattle.ob_checked.specs.Traps.{evaluated};
 ghost use Rattle.ob_typing.specs.Arithmetic as Arithmetics;
 ghost use Rattle.ob_typing.specs.Expressions as Typing;
 ghost use Rattle.ob_scopes.specs.Usages.{use_of};
 
+use ob_checked::operators::{compared, complement, computed, decides, negated};
+use ob_checked::trap::Trap;
 use ob_grammar::tree::Sign;
 use ob_interface::scalar::Scalar;
-use ob_scalars::operators::{compared, complement, computed, decides, negated};
-use ob_scalars::trap::Trap;
 use ob_typing::operator::{BinaryOperator, Relation};
 
 /// Where an expression stands.

@@ -7,8 +7,8 @@ ghost use Rattle.ob_checked.specs.View.{table_of};
 ghost use Rattle.ob_scopes.specs.Shapes.{type_of_shape};
 
 use ob_checked::types::{DataType, Structure, Structured, Types};
+use ob_checked::written::same_scalar_type;
 use ob_interface::scalar::ScalarType;
-use ob_scalars::written::same_scalar_type;
 
 /// What a type consists of: a scalar, or an occurrence of ARRAY or RECORD.
 #[derive(Clone, Copy)]

@@ -9,11 +9,11 @@ ghost use Rattle.ob_scopes.specs.Objects.{object_of, scope_of, env_behind, known
 use crate::fault::CheckFault;
 use crate::taken::second;
 use ob_checked::fields::Fields;
+use ob_checked::operators::type_of;
 use ob_checked::program::{Owner, Parameter};
 use ob_checked::types::{DataType, Types};
 use ob_grammar::tree::Name;
 use ob_interface::scalar::{Scalar, ScalarType};
-use ob_scalars::operators::type_of;
 use std::alloc::Global;
 use std::collections::BTreeMap;
 use std::mem::replace;

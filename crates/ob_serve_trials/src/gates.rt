@@ -2,9 +2,7 @@
 
 ghost use Rattle.std.specs.Prelude.{◌≤◌};
 
-use ob_desk_serve::ServeFault;
-use ob_desk_texts::{ServeTextFault, serve_text_with};
-use ob_desk_workers::Gate;
+use ob_desk_serve::{Gate, ServeFault, ServeTextFault, serve_text_with};
 use ob_object_compile::{Asked, Beginning};
 use std::alloc::Global;
 use std::fs;
@@ -56,7 +54,7 @@ fn served_calls<R: Threads + Wait + Sync, G: Gate + Sync>(
 struct Closed;
 
 impl Gate for Closed {
-    ghost use Rattle.ob_desk_workers.specs.Rounds.{never};
+    ghost use Rattle.ob_desk_serve.specs.Rounds.{never};
 
     ghost passes = { λ _. never };
 

@@ -7,7 +7,7 @@ use Rattle.ob_store.specs.declared.value.Value.{Value, Row_of-Value, end_of-Valu
 use Rattle.ob_store.specs.declared.value.Value.TheVariants as Variants
 use Rattle.ob_interface.specs.declared.scalar.Scalar.{Scalar}
 use Rattle.ob_store.specs.View.{value_in, parts_in, values_in, put_back}
-use Rattle.ob_positions.specs.Value as Values
+use Rattle.ob_meaning.specs.ByPositionValue as Values
 
 parts_row : (n : _) (row : Row_of-Value n) → parts_in row ≡ values_in (items-the_row-Value n row)
 parts_row n end_of-Value = refl

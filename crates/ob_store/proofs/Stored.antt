@@ -9,8 +9,8 @@ use Rattle.ob_store.specs.Begun.{put_back_at}
 use Rattle.ob_store.specs.declared.value.Value.{Value}
 use Rattle.ob_store.specs.declared.value.Value.TheVariants as Variants
 use Rattle.ob_interface.specs.declared.scalar.Scalar.{Scalar}
-use Rattle.ob_positions.specs.Value as Values
-use Rattle.ob_positions.specs.Store as Stores
+use Rattle.ob_meaning.specs.ByPositionValue as Values
+use Rattle.ob_meaning.specs.ByPositionStore as Stores
 
 pub with_held-set : (hs : List Held) (i : ℕ) (d h : Held) (path : List ℕ) (w : Values.Value) → i < length hs →
     held_in h ≡ Stores.with_value (held_in (get_or hs i d)) path w → map held_in (set hs i h) ≡ Stores.with_held (map held_in hs) i path w

@@ -2,7 +2,7 @@
 use Rattle.std.proofs.Common.{◌≡◌, List, [], ◌∷◌, ◌++◌, refl, ap}
 use Rattle.ob_store.specs.declared.before.Listed.{Listed}
 use Rattle.ob_store.specs.Begun.{without_listed, taken_back}
-use Rattle.ob_positions.specs.Store as Stores
+use Rattle.ob_meaning.specs.ByPositionStore as Stores
 
 -- the last write is taken back before the others
 pub taken_back-last : (writes : List Listed) (w : Listed) (a : Stores.Activation) →

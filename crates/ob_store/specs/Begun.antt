@@ -1,7 +1,7 @@
 -- How the module's activation was when a call began, from the writes since then.
 use Rattle.std.specs.Prelude.{ℕ, List, [], ◌∷◌, Option, Some, None}
-use Rattle.ob_positions.specs.Value as Values
-use Rattle.ob_positions.specs.Store as Stores
+use Rattle.ob_meaning.specs.ByPositionValue as Values
+use Rattle.ob_meaning.specs.ByPositionStore as Stores
 use Rattle.ob_store.specs.declared.value.Value.{Value}
 use Rattle.ob_store.specs.declared.before.Written.{Written}
 use Rattle.ob_store.specs.declared.before.Listed.{Listed}

@@ -11,8 +11,8 @@ use Rattle.ob_store.specs.declared.store.Lent.{Lent}
 use Rattle.ob_store.specs.declared.store.Lent.TheVariants as Lents
 use Rattle.ob_store.specs.declared.store.Store.{Store}
 use Rattle.ob_store.specs.declared.state.State.{State}
-use Rattle.ob_positions.specs.Value as Values
-use Rattle.ob_positions.specs.Store as Stores
+use Rattle.ob_meaning.specs.ByPositionValue as Values
+use Rattle.ob_meaning.specs.ByPositionStore as Stores
 
 abbrev mutual
   pub value_in : Value → Values.Value

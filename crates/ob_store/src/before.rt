@@ -1,8 +1,8 @@
 //! How the module's activation was when a call began.
 
 ghost use Rattle.std.specs.Prelude.{◌≡◌, [], IfErr, IfOk, OnErr, OnOk};
-ghost use Rattle.ob_positions.specs.Store as Stores;
-ghost use Rattle.ob_positions.specs.Value as Values;
+ghost use Rattle.ob_meaning.specs.ByPositionStore as Stores;
+ghost use Rattle.ob_meaning.specs.ByPositionValue as Values;
 ghost use Rattle.ob_store.specs.View.{place_in, variables_in};
 ghost use Rattle.ob_store.specs.Begun.{without, without_listed, taken_back, begun_by};
 

@@ -2,9 +2,9 @@
 
 ghost use Rattle.std.specs.Prelude.{◌≡◌};
 ghost use Rattle.ob_meaning.specs.OverStore.{within};
-ghost use Rattle.ob_scalars.specs.Traps.{evaluated};
+ghost use Rattle.ob_checked.specs.Traps.{evaluated};
 
-use ob_scalars::trap::Trap;
+use ob_checked::trap::Trap;
 
 /// An index that is within an array of this length.
 pub fn index_within(length: usize, index: i32) -> Result<usize, Trap>

@@ -2,8 +2,8 @@
 
 ghost use Rattle.std.specs.Prelude.{◌≡◌, ◌<◌, suc, [], ◌∷◌, ◌++◌, IfOk, OnOk, OnErr, map, take};
 ghost use Rattle.ob_typing.specs.Program.{Own};
-ghost use Rattle.ob_positions.specs.Store as Stores;
-ghost use Rattle.ob_positions.specs.Value as Values;
+ghost use Rattle.ob_meaning.specs.ByPositionStore as Stores;
+ghost use Rattle.ob_meaning.specs.ByPositionValue as Values;
 ghost use Rattle.ob_store.specs.View.{value_in, value_or_zero, held_in, lent_in, held_or_zero, place_in, activation_in, variables_in, state_of, store_in};
 ghost use Rattle.ob_store.specs.Begun.{begun_in, put_back_at};
 

@@ -1,7 +1,7 @@
 //! Values of variables.
 
 ghost use Rattle.std.specs.Prelude.{◌≡◌, ◌∷◌, IfOk};
-ghost use Rattle.ob_positions.specs.Value as Values;
+ghost use Rattle.ob_meaning.specs.ByPositionValue as Values;
 ghost use Rattle.ob_store.specs.View.{value_in, values_in, value_or_zero, put_back};
 
 use ob_interface::scalar::Scalar;

@@ -7,4 +7,4 @@ pub mod reader;
 pub use ob_grammar::tree as tree;
 pub use ob_interface::NoMemory;
 pub use ob_parser::parser as parser;
-pub use ob_parser_source::{ListedTokens, ScannedTokens, TokenSource};
+pub use ob_scan::{ListedTokens, ScannedTokens, TokenSource};

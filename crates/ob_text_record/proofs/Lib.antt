@@ -1,0 +1,3 @@
+mod Each
+pub mod SameTexts
+pub mod Texts

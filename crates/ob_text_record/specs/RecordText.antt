@@ -4,13 +4,13 @@ use Rattle.std.specs.List.{flat_map}
 use Rattle.ob_interface.specs.declared.scalar.Scalar.{Scalar}
 use Rattle.ob_interface.specs.Call.{ObjectCall, Reply}
 use Rattle.ob_interface.specs.Export.{Signature}
-use Rattle.ob_positions.specs.Store.{Activation}
+use Rattle.ob_meaning.specs.ByPositionStore.{Activation}
 use Rattle.ob_typing.specs.Program.{Program}
 use Rattle.ob_checked.specs.Exports.{signatures}
-use Rattle.ob_reply.specs.ReplyLines.{reply_line}
+use Rattle.ob_text_words.specs.ReplyLines.{reply_line}
 use Rattle.ob_text_words.specs.ScalarTexts.{scalar_text}
-use Rattle.ob_object_record.specs.Record.{Record}
-use Rattle.ob_text_values.specs.Variables.{opening_text, state_text}
+use Rattle.ob_text_record.specs.Record.{Record}
+use Rattle.ob_text_record.specs.Variables.{opening_text, state_text}
 use Rattle.wf_history.specs.declared.event.CallId.{CallId}
 use Rattle.wf_history.specs.History.{Event, Begin, Applied, End}
 use Rattle.wf_table.specs.declared.schedule.Turns.{Turns}

@@ -3,16 +3,16 @@
 ghost use Rattle.std.specs.Prelude.{◌≡◌, ◌++◌, OnErr, OnOk, map, slice_get, string_bytes};
 ghost use Rattle.std.specs.List.{flat_map};
 ghost use Rattle.ob_interface.specs.View.{signature_of};
-ghost use Rattle.ob_reply.specs.ReplyLines.{reply_line};
+ghost use Rattle.ob_text_words.specs.ReplyLines.{reply_line};
 ghost use Rattle.ob_text_record.specs.RecordText.{begin_text, event_text, id_text, ids_text, name_of, scalars_text};
 ghost use Rattle.wf_history.specs.View.{event_of, seen_call, seen_reply};
 ghost use Rattle.ob_text_words.specs.Appending.{GoesOn};
 
 use ob_interface::export::Export;
 use ob_interface::scalar::Scalar;
-use ob_reply::reply_lines::{push_done_line, push_trap_line};
 use ob_text_words::numbers::push_count;
-use ob_text_words::values::push_value;
+use ob_text_words::reply_lines::{push_done_line, push_trap_line};
+use ob_text_words::scalar_words::push_value;
 use std::alloc::AllocError;
 use wf_history::{CallId, Event, SeenCall, SeenEvent, SeenReply};
 

@@ -1,9 +1,23 @@
-//! Records of runs: what a run of the object showed, as text.
+//! What a run of a module's object showed, as text: records of runs, the values of variables, and states of the machine, which stand at a
+//! glance: each process with its label, the announcements, the root, and the blocks by their owners.
+//!
+//! One may rely on the clauses of `write_record`, `push_state`, `push_opening` and `write_state`. What is printed is a function of what is given alone.
 #![tactic(auto)]
 
+mod blocks;
 mod events;
+pub mod laws;
+mod processes;
+pub mod record;
 mod schedule;
+pub mod state_lines;
+mod uses;
+pub mod values;
+pub mod variables;
+mod words;
 pub mod writing;
 
 pub use events::push_id;
+pub use record::{Record, carried_copy, carried_state};
+pub use state_lines::write_state;
 pub use writing::write_record;

@@ -3,18 +3,18 @@
 ghost use Rattle.std.specs.Prelude.{◌≡◌, ◌++◌, IfOk, OnErr, OnOk, option_map, string_bytes};
 ghost use Rattle.ob_checked.specs.CheckedModule.{program_in};
 ghost use Rattle.ob_checked.specs.View.{program_of};
-ghost use Rattle.ob_object_record.specs.Record.{record_of};
+ghost use Rattle.ob_text_record.specs.Record.{record_of};
 ghost use Rattle.ob_text_record.specs.RecordText.{carried_text, head_text, order_text, record_text, title_text};
 ghost use Rattle.ob_store.specs.View.{state_of};
 ghost use Rattle.ob_text_words.specs.Appending.{GoesOn};
 
+use crate::Record;
 use crate::events::{push_events, push_ids};
 use crate::schedule::push_schedule;
+use crate::variables::{push_opening, push_state};
 use ob_checked::checked::Checked;
 use ob_checked::program::Program;
-use ob_object_record::Record;
 use ob_store::state::State;
-use ob_text_values::variables::{push_opening, push_state};
 use ob_text_words::numbers::push_number;
 use std::alloc::{AllocError, Global};
 use wf_history::CallId;

@@ -1,5 +1,9 @@
+pub mod Answering
+pub mod Chosen
 pub mod Copies
+pub mod ItemWords
+pub mod NothingSaid
+pub mod Numbers
 pub mod OneScript
 pub mod ScriptFits
 pub mod ScriptReading
-pub mod NothingSaid

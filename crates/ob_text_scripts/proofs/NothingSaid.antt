@@ -6,8 +6,8 @@ use Rattle.std.specs.List.{list_all}
 use Rattle.ob_interface.specs.declared.export.Formal.{Formal}
 use Rattle.ob_interface.specs.declared.scalar.Scalar.{Scalar}
 use Rattle.ob_interface.specs.declared.scalar.ScalarType.{ScalarType}
-use Rattle.ob_text_exports.specs.Values as Values
-use Rattle.ob_text_exports.specs.Values.{AreValues, types_of}
+use Rattle.ob_text_words.specs.Values as Values
+use Rattle.ob_text_words.specs.Values.{AreValues, types_of}
 
 said_of : (types : List ScalarType) (words : List (Bor (List ℕ))) (values : List Scalar) → types ≡ [] → length words ≡ 0 → values ≡ [] →
     AreValues types (map (λ w. w.now) words) values

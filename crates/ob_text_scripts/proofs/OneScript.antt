@@ -4,8 +4,8 @@ use Rattle.std.proofs.lemmas.Bool.{false≢true}
 use Rattle.ob_interface.specs.declared.scalar.Scalar.{Scalar}
 use Rattle.ob_interface.specs.Export.{Signature, value_types}
 use Rattle.ob_text_words.specs.Words.{IsDigits, Word}
-use Rattle.ob_text_exports.specs.Values.{AreValues}
-use Rattle.ob_text_exports.proofs.OneList.{one_list}
+use Rattle.ob_text_words.specs.Values.{AreValues}
+use Rattle.ob_text_words.proofs.OneList.{one_list}
 use Rattle.ob_text_scripts.specs.Script as Script
 use Rattle.ob_text_words.specs.ScriptCalls.{ScriptCall}
 use Rattle.ob_text_scripts.specs.Script.{AreLines, IsSkipped, Makes}

@@ -8,9 +8,9 @@ use Rattle.ob_interface.specs.declared.scalar.ScalarType.{ScalarType}
 use Rattle.ob_interface.specs.Export.{Signature, CallFits, type_of}
 use Rattle.ob_text_words.specs.ScriptCalls.{ScriptCall, object_call}
 use Rattle.ob_text_words.specs.Words.{Word}
-use Rattle.ob_text_exports.specs.ExportNames.{export_named}
-use Rattle.ob_text_exports.specs.Values.{IsValue, integer, boolean, AreValues, more}
-use Rattle.ob_text_exports.specs.Values as Values
+use Rattle.ob_text_words.specs.ExportNames.{export_named}
+use Rattle.ob_text_words.specs.Values.{IsValue, integer, boolean, AreValues, more}
+use Rattle.ob_text_words.specs.Values as Values
 use Rattle.ob_text_scripts.specs.Script.{AreLines, IsScript, Makes, makes, none, skipped, call}
 
 abbrev the_number : Option (ℕ × Signature) → ℕ

@@ -9,8 +9,8 @@ use Rattle.ob_text_words.specs.Words.{Word, IsProcess, IsName, lines, words}
 use Rattle.ob_text_scripts.specs.declared.script.ScriptFault.{ScriptFault}
 use Rattle.ob_text_scripts.specs.declared.script.ScriptFault.TheVariants as Faults
 use Rattle.ob_text_words.specs.ScriptCalls.{ScriptCall}
-use Rattle.ob_text_exports.specs.Values.{AreValues}
-use Rattle.ob_text_exports.specs.ExportNames.{export_named}
+use Rattle.ob_text_words.specs.Values.{AreValues}
+use Rattle.ob_text_words.specs.ExportNames.{export_named}
 use Rattle.ob_text_scripts.specs.Script.{AreLines, none, skipped, call, IsSkipped, Makes, makes, HasNoForm, no_process, no_second, no_name, HasNoProcess, past, HasNoExport, unknown, HasBadArguments, differ, IsScriptFault, FailsAtLine, FaultStands, SaysNone}
 use Rattle.ob_text_scripts.specs.ScriptLine.{HasFault}
 

@@ -1,2 +1,4 @@
+pub mod Chance
+pub mod Finish
 pub mod Script
 pub mod ScriptLine

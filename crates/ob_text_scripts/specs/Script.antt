@@ -4,8 +4,8 @@ use Rattle.ob_interface.specs.declared.scalar.Scalar.{Scalar}
 use Rattle.ob_interface.specs.Export.{Signature, value_types}
 use Rattle.ob_text_words.specs.ScriptCalls.{ScriptCall}
 use Rattle.ob_text_words.specs.Words.{Word, IsName, IsProcess, lines, words}
-use Rattle.ob_text_exports.specs.Values.{AreValues}
-use Rattle.ob_text_exports.specs.ExportNames.{export_named}
+use Rattle.ob_text_words.specs.Values.{AreValues}
+use Rattle.ob_text_words.specs.ExportNames.{export_named}
 use Rattle.ob_text_scripts.specs.declared.script.ScriptFault.{ScriptFault}
 use Rattle.ob_text_scripts.specs.declared.script.ScriptFault.TheVariants as Faults
 

@@ -1,8 +1,7 @@
 //! Texts that are histories, and those that stop being one.
 
-use ob_check_text::checked_text::checked_text;
-use ob_text_history_reading::{ReadHistory, read_history};
-use ob_text_record_reading::RecordFault;
+use ob_check::checked_text::checked_text;
+use ob_text_reading::{ReadHistory, RecordFault, read_history};
 use std::alloc::Global;
 use std::test::Fail;
 

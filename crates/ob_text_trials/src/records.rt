@@ -1,10 +1,9 @@
 //! Records of a module with an array, records and BOOLEANs, read and written again.
 
-use ob_check_text::checked_text::checked_text;
-use ob_interpreter::opening::opening;
-use ob_object_record::Record;
-use ob_text_record::write_record;
-use ob_text_record_reading::{RecordFault, read_record};
+use ob_check::checked_text::checked_text;
+use ob_mean::opening::opening;
+use ob_text_reading::{RecordFault, read_record};
+use ob_text_record::{Record, write_record};
 use std::test::Fail;
 use wf_table::Turns;
 

@@ -7,12 +7,12 @@ use Rattle.std.proofs.lemmas.Bool.Decides.{nat_tests}
 use Rattle.ob_interface.specs.declared.scalar.Scalar.{Scalar}
 use Rattle.ob_interface.specs.declared.scalar.ScalarType.{ScalarType}
 use Rattle.ob_interface.specs.declared.scalar.ScalarType.TheVariants.{Integer, Boolean}
-use Rattle.ob_meaning.specs.Value as Values
-use Rattle.ob_meaning.specs.Value.{Value, Single, Elements, Named, NamedValues}
+use Rattle.ob_meaning.specs.ByNameValue as Values
+use Rattle.ob_meaning.specs.ByNameValue.{Value, Single, Elements, Named, NamedValues}
 use Rattle.ob_scan.proofs.TokenFacts.{ident_bytes}
-use Rattle.ob_text_exports.proofs.OneList.{one_list}
-use Rattle.ob_text_exports.specs.Values as Scalars
-use Rattle.ob_text_exports.specs.Values.{IsValue}
+use Rattle.ob_text_words.proofs.OneList.{one_list}
+use Rattle.ob_text_words.specs.Values as Scalars
+use Rattle.ob_text_words.specs.Values.{IsValue}
 use Rattle.ob_text_words.specs.ScalarTexts.{truth_text}
 use Rattle.ob_text_words.specs.Words.{IsDigits, IsInteger, IsName, Word, positive, negative}
 use Rattle.ob_text_values_reading.specs.Taking.{Ends, HasNoMark, at_end, at_mark, is_mark}

@@ -1,9 +1,9 @@
 -- What is printed of a value says it.
 use Rattle.std.proofs.Common.{◌≡◌, ◌∙◌, ℕ, suc, List, [], ◌∷◌, ◌++◌, codes, refl, sym, ap, subst, append_assoc, append-nil}
 use Rattle.ob_interface.specs.declared.scalar.Scalar.TheVariants as Scalars
-use Rattle.ob_meaning.specs.Value.{Value, Single, Elements, Named, Values, no_value, value, NamedValues, no_named, named}
-use Rattle.ob_text_exports.specs.Values as Said
-use Rattle.ob_text_values.specs.Named.{named_elements, named_fields, named_text}
+use Rattle.ob_meaning.specs.ByNameValue.{Value, Single, Elements, Named, Values, no_value, value, NamedValues, no_named, named}
+use Rattle.ob_text_words.specs.Values as Said
+use Rattle.ob_text_record.specs.Named.{named_elements, named_fields, named_text}
 use Rattle.ob_text_words.specs.Words.{IsName}
 use Rattle.ob_text_values_reading.proofs.Numerals.{integer_text}
 use Rattle.ob_text_values_reading.specs.Printed.{AreSome, ArePrintable, ArePrintableFields, IsPrintable}

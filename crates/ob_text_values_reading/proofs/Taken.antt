@@ -8,9 +8,9 @@ use Rattle.ob_carry.specs.declared.named.NamedValue.{NamedValue}
 use Rattle.ob_interface.specs.declared.no_memory.NoMemory.{NoMemory}
 use Rattle.ob_interface.specs.declared.scalar.Scalar.{Scalar}
 use Rattle.ob_interface.specs.declared.scalar.ScalarType.{ScalarType}
-use Rattle.ob_meaning.specs.Value as Values
-use Rattle.ob_meaning.specs.Value.{Value, NamedValues}
-use Rattle.ob_text_exports.specs.Values.{IsValue}
+use Rattle.ob_meaning.specs.ByNameValue as Values
+use Rattle.ob_meaning.specs.ByNameValue.{Value, NamedValues}
+use Rattle.ob_text_words.specs.Values.{IsValue}
 use Rattle.ob_text_words.specs.Words.{IsName, Word}
 use Rattle.ob_text_values_reading.proofs.OneValue.{field_parts, fields_parts, name_unmarked, no_brace_fields, one_name, one_elements, one_fields, one_value, scalar_begins, scalar_unmarked, no_array_scalar, no_record_scalar}
 use Rattle.ob_text_values_reading.specs.Taking as Taking

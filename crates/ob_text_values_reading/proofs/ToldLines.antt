@@ -5,7 +5,7 @@ use Rattle.ob_carry.specs.Carried.{AreDistinctEntries, Entry, NoneNamed}
 use Rattle.ob_carry.specs.View.{entry_of}
 use Rattle.ob_carry.specs.declared.named.NamedField.{NamedField}
 use Rattle.ob_interface.specs.declared.no_memory.NoMemory.{NoMemory}
-use Rattle.ob_meaning.specs.Value.{Value}
+use Rattle.ob_meaning.specs.ByNameValue.{Value}
 use Rattle.ob_text_words.specs.Finding.{FindsAs}
 use Rattle.ob_text_words.specs.Words.{IsName, Word}
 use Rattle.ob_text_values_reading.proofs.Indexing.{distinct_more}

@@ -2,7 +2,7 @@
 use Rattle.ob_carry.specs.Values.{IsInteger}
 use Rattle.ob_interface.specs.declared.scalar.Scalar.{Scalar}
 use Rattle.ob_interface.specs.declared.scalar.Scalar.TheVariants.{Int, Bool}
-use Rattle.ob_meaning.specs.Value.{Value, Single, Elements, Named, Values, no_value, value, NamedValues, no_named, named}
+use Rattle.ob_meaning.specs.ByNameValue.{Value, Single, Elements, Named, Values, no_value, value, NamedValues, no_named, named}
 use Rattle.ob_text_words.specs.Words.{IsName}
 
 abbrev pub IsPrintableScalar : Scalar → Type 0

@@ -3,8 +3,8 @@
 use Rattle.std.specs.Prelude.{ℕ, suc, ◌≤◌, max, List, [], ◌∷◌, ◌++◌, codes}
 use Rattle.ob_interface.specs.declared.scalar.Scalar.{Scalar}
 use Rattle.ob_interface.specs.declared.scalar.ScalarType.{ScalarType}
-use Rattle.ob_meaning.specs.Value.{Value, Single, Elements, Named, Values, no_value, value, NamedValues, no_named, named}
-use Rattle.ob_text_exports.specs.Values.{IsValue}
+use Rattle.ob_meaning.specs.ByNameValue.{Value, Single, Elements, Named, Values, no_value, value, NamedValues, no_named, named}
+use Rattle.ob_text_words.specs.Values.{IsValue}
 use Rattle.ob_text_words.specs.Words.{IsName, Word}
 
 mutual

@@ -1,7 +1,7 @@
 -- The lines of variables: a letter, the name and the value.
 use Rattle.std.specs.Prelude.{◌≡◌, ℕ, List, [], ◌∷◌}
 use Rattle.ob_carry.specs.Carried.{Entry}
-use Rattle.ob_meaning.specs.Value.{Value}
+use Rattle.ob_meaning.specs.ByNameValue.{Value}
 use Rattle.ob_text_values_reading.specs.RecordTexts.{Line}
 use Rattle.ob_text_values_reading.specs.ValueTexts.{SaysValue}
 use Rattle.ob_text_words.specs.Words.{IsName, Word}

@@ -1,8 +1,8 @@
 //! Laws of the texts of values. What a function here ensures is proved; it does nothing.
 
 ghost use Rattle.std.specs.Prelude.{◌≡◌};
-ghost use Rattle.ob_meaning.specs.Value.{Value};
-ghost use Rattle.ob_text_values.specs.Named.{named_text};
+ghost use Rattle.ob_meaning.specs.ByNameValue.{Value};
+ghost use Rattle.ob_text_record.specs.Named.{named_text};
 ghost use Rattle.ob_text_values_reading.specs.ValueTexts.{IsValueText};
 ghost use Rattle.ob_text_values_reading.specs.Printed.{IsPrintable};
 ghost use Rattle.ob_text_words.specs.Words.{Word};

@@ -4,8 +4,8 @@ ghost use Rattle.std.specs.Prelude.{◌≡◌, ◌≢◌, ◌↔◌, ◌++◌, �
 ghost use Rattle.ob_carry.specs.View.{named_in};
 ghost use Rattle.ob_interface.specs.declared.scalar.Scalar.{Scalar};
 ghost use Rattle.ob_interface.specs.declared.scalar.ScalarType.{ScalarType};
-ghost use Rattle.ob_meaning.specs.Value.{Value};
-ghost use Rattle.ob_text_exports.specs.Values.{IsValue};
+ghost use Rattle.ob_meaning.specs.ByNameValue.{Value};
+ghost use Rattle.ob_text_words.specs.Values.{IsValue};
 ghost use Rattle.ob_text_words.specs.Finding.{FindsAs};
 ghost use Rattle.ob_text_words.specs.Words.{IsName};
 ghost use Rattle.ob_text_values_reading.specs.Taking.{Ends, FindsElements, FindsField, FindsFields, FindsSomeFields, FindsValue, IsNoBracket, PartsAtMark, is_mark};
@@ -14,7 +14,7 @@ ghost use Rattle.ob_text_values_reading.specs.ValueTexts.{IsValueText, SaysValue
 use ob_carry::named::{NamedField, NamedValue};
 use ob_interface::NoMemory;
 use ob_interface::scalar::{Scalar, ScalarType};
-use ob_text_exports::values;
+use ob_text_words::parameters;
 use ob_text_words::words::is_name;
 use std::alloc::{AllocError, Global};
 use std::str;

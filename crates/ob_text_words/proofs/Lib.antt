@@ -1,6 +1,13 @@
-pub mod LineWords
-pub mod Numerals
 pub mod Appended
 pub mod DigitParts
+pub mod ExportSearch
+pub mod ItemReading
+pub mod Labels
+pub mod LineItems
+pub mod LineWords
 pub mod Names
+pub mod Numerals
+pub mod OneList
 pub mod Reading
+pub mod ScheduleReading
+pub mod ValueReading

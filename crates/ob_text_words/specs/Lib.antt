@@ -1,5 +1,10 @@
-pub mod Words
 pub mod Appending
-pub mod ScalarTexts
-pub mod ScriptCalls
+pub mod ExportNames
 pub mod Finding
+pub mod LabelNames
+pub mod ReplyLines
+pub mod ScalarTexts
+pub mod Schedule
+pub mod ScriptCalls
+pub mod Values
+pub mod Words

@@ -3,7 +3,7 @@ use Rattle.std.proofs.Common.{◌≡◌, ◌+◌, ◌≤◌, ℤ, List, [], ◌�
 use Rattle.ob_typing.specs.Program.{Program}
 use Rattle.wf_table.specs.declared.engine_turn.EngineTurn.{EngineTurn}
 use Rattle.wf_table.specs.declared.engine_turn.EngineTurn.TheVariants.{Stuck}
-use Rattle.ob_tree_work.specs.Work.{Task, does, does_first}
+use Rattle.ob_tree_law.specs.Work.{Task, does, does_first}
 use Rattle.ob_tree_law.specs.TreeEngine.{TreeRun}
 use Rattle.ob_tree.specs.Acting.{Comes, HasFirst, rest_of, state_in}
 

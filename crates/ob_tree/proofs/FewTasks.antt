@@ -5,7 +5,7 @@ use Rattle.std.proofs.lemmas.Bool.Decides.{nat_tests}
 use Rattle.std.proofs.lemmas.List.Elements.{All-nil, All-cons, All-append, All-head, All-tail}
 use Rattle.ob_scan.specs.declared.token.Kind.{Kind}
 use Rattle.ob_code_scheme.specs.Temporaries.{largest}
-use Rattle.ob_code_well_formed.proofs.Typed.{Deeper, both_none, deeper, same_selectors}
+use Rattle.ob_code_correct.proofs.Typed.{Deeper, both_none, deeper, same_selectors}
 use Rattle.ob_grammar.specs.Conditions.{too_deep, opening, in_expr, in_operands, in_selectors, in_actuals, in_stmt, in_stmts, in_branches, in_otherwise, in_body, in_constants, in_types, in_variables, in_parameters, in_declarations, in_procedures, differing, KeepsConditions}
 use Rattle.ob_grammar.specs.Grammar as Grammar
 use Rattle.ob_grammar.specs.Grammar.{Lexemes, Separated, Perhaps, BodyPart}
@@ -17,7 +17,7 @@ use Rattle.ob_interface.specs.declared.scalar.Scalar.{Scalar}
 use Rattle.ob_interface.specs.declared.scalar.ScalarType.{ScalarType}
 use Rattle.ob_tree.specs.Rooms.{most_room, most_tasks}
 use Rattle.ob_tree_law.specs.TreeEngine.{work_room}
-use Rattle.ob_tree_work.specs.Reserve.{activation_most, actual_most, address_most, all_most, choosing_most, doing_most, handing_most, operators_most, procedure_most, selecting_most, value_most}
+use Rattle.ob_tree_law.specs.Reserve.{activation_most, actual_most, address_most, all_most, choosing_most, doing_most, handing_most, operators_most, procedure_most, selecting_most, value_most}
 use Rattle.ob_typing.specs.Declarations as Typing
 use Rattle.ob_typing.specs.Declarations.{Declares, DeclaresProcedures, Room, WellTyped}
 use Rattle.ob_typing.specs.Expressions as Expressions

@@ -11,13 +11,13 @@ use Rattle.ob_code_machine.specs.declared.saved.Saved.{Saved}
 use Rattle.ob_code_scheme.specs.Types.{words, part_type, part_offset, Space, Holding, Referring, Scope, word_in, space_at, scope_of, variables_scope}
 use Rattle.ob_code_scheme.specs.Scheme.{size, entry_of, own_code, variable_code, code_of, HasAt, selectors_at}
 use Rattle.ob_code_scheme.specs.WellFormed.{IsWellFormed}
-use Rattle.ob_tree_work.specs.Work.{Task, Address, Selecting}
-use Rattle.ob_tree_work.specs.Operands.{largest_operand}
-use Rattle.ob_tree_work.specs.Places.{Reads}
-use Rattle.ob_tree_work.specs.Reserve.{activation_most, IsLow}
-use Rattle.ob_tree_work.proofs.Opened.{open_element}
-use Rattle.ob_tree_work.proofs.Small.{operands_found}
-use Rattle.ob_tree_work.proofs.Within.{low_long}
+use Rattle.ob_tree_law.specs.Work.{Task, Address, Selecting}
+use Rattle.ob_tree_law.specs.Operands.{largest_operand}
+use Rattle.ob_tree_law.specs.Places.{Reads}
+use Rattle.ob_tree_law.specs.Reserve.{activation_most, IsLow}
+use Rattle.ob_tree_law.proofs.Opened.{open_element}
+use Rattle.ob_tree_law.proofs.Small.{operands_found}
+use Rattle.ob_tree_law.proofs.Within.{low_long}
 use Rattle.ob_tree_tasks.specs.Opening.{IsSmallSelector, IsSmallTask, FirstFits}
 
 module _ (program : Program) (well : ∥ IsWellFormed program ∥₁) where

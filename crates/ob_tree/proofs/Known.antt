@@ -7,11 +7,11 @@ use Rattle.std.proofs.Math.Bridge.{le_prop}
 use Rattle.std.proofs.lemmas.Option.{slice_get_past}
 use Rattle.ob_typing.specs.Program.{Name, DataType, Variable, Procedure, Program}
 use Rattle.ob_code_engine.specs.contracts.entrance.Entrance as Entrances
-use Rattle.ob_code_layout.specs.Counted.{counted}
-use Rattle.ob_code_layout.specs.Layout.{LayoutParts, layout_of}
-use Rattle.ob_code_law.specs.CodeMeaning.{Entrance, entrance_at, most, value_count}
-use Rattle.ob_code_law.specs.Compiled.{entrances_from}
-use Rattle.ob_code_law.proofs.ExportLaw as Exports
+use Rattle.ob_layout.specs.Counted.{counted}
+use Rattle.ob_layout.specs.Layout.{LayoutParts, layout_of}
+use Rattle.ob_code_correct.specs.CodeMeaning.{Entrance, entrance_at, most, value_count}
+use Rattle.ob_code_correct.specs.Compiled.{entrances_from}
+use Rattle.ob_code_correct.proofs.ExportLaw as Exports
 use Rattle.ob_code_scheme.specs.Types.{Scope, parameters_scope, variables_scope, frame_scope}
 use Rattle.ob_code_scheme.specs.Layout.{variable_words}
 use Rattle.ob_code_scheme.specs.Scheme.{code_of}

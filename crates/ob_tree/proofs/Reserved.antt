@@ -1,7 +1,7 @@
 -- The most tasks of constructs, counted up to the greatest number.
 use Rattle.std.proofs.Common.{◌≡◌, ℕ, ◌+◌, ◌≤◌, List, [], ◌∷◌, Option, max, sym, ap, ◌∙◌, Box, Vec, Global, arith}
 use Rattle.ob_typing.specs.Program.{Branches, no_branch, otherwise, branch, Statements, no_statement, statement}
-use Rattle.ob_tree_work.specs.Reserve as Counts
+use Rattle.ob_tree_law.specs.Reserve as Counts
 use Rattle.ob_checked.specs.declared.program.Branch.{Branch}
 use Rattle.ob_checked.specs.declared.program.Operation.{Operation}
 use Rattle.ob_checked.specs.declared.program.Expression.{Expression}
@@ -9,7 +9,7 @@ use Rattle.ob_checked.specs.declared.program.Expression.TheVariants as Expressio
 use Rattle.ob_checked.specs.declared.program.Statement.{Statement}
 use Rattle.ob_checked.specs.declared.program.Statement.TheVariants as Given
 use Rattle.ob_checked.specs.View.{expression_of, operations_in, statement_of, statements_in, branches_in, otherwise_of}
-use Rattle.ob_code_layout.specs.Counted.{counted}
+use Rattle.ob_layout.specs.Counted.{counted}
 use Rattle.ob_checked.proofs.Rows.{expression_of-computed, statement_of-if, statement_of-while, statement_of-repeat}
 
 pub plus_counted : (r s n k m : ℕ) → m ≡ n + k → r ≡ counted n → s ≡ counted (r + k) → s ≡ counted m

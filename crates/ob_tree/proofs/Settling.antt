@@ -1,8 +1,8 @@
 -- Opening goes on until no silent task is in front.
 use Rattle.std.proofs.Common.{◌≡◌, ℕ, false, List, [], ◌∷◌, None, refl, ap, sym, ◌∙◌}
 use Rattle.ob_code_scheme.specs.Types.{Scope}
-use Rattle.ob_tree_work.specs.Work.{Task, Value, Operators, Address, Selecting, Handing, Doing, All, Choosing, Instruction, AndThen, OrElse, Alternative, Over, Looping, Again, Until, Taking, Calling, Leaving, parts, opened}
-use Rattle.ob_tree_work.proofs.Ready.{IsReady, opened_left}
+use Rattle.ob_tree_law.specs.Work.{Task, Value, Operators, Address, Selecting, Handing, Doing, All, Choosing, Instruction, AndThen, OrElse, Alternative, Over, Looping, Again, Until, Taking, Calling, Leaving, parts, opened}
+use Rattle.ob_tree_law.proofs.Ready.{IsReady, opened_left}
 use Rattle.ob_tree_tasks.specs.WorkTasks.{WorkTasks, with_tasks}
 use Rattle.ob_tree_tasks.specs.Opening.{is_silent, starts_silent}
 

@@ -8,12 +8,12 @@ use Rattle.ob_code_scheme.specs.WellFormed.{IsWellFormed}
 use Rattle.wf_table.specs.declared.engine_turn.EngineTurn.{EngineTurn}
 use Rattle.wf_table.specs.declared.engine_turn.EngineTurn.TheVariants.{On}
 use Rattle.wf_table.specs.Meaning.{Turned}
-use Rattle.ob_tree_work.specs.Work.{Task, TreeState, Answer, settled, opened_by, does_first, step}
-use Rattle.ob_tree_work.specs.Work as Work
-use Rattle.ob_tree_work.specs.Reserve.{activation_most, AnswerKeepsWithin}
-use Rattle.ob_tree_work.proofs.Opening.{opened_by_kept}
-use Rattle.ob_tree_work.proofs.Ready.{IsReady, opened_left}
-use Rattle.ob_tree_work.proofs.Within.{opened_by_low, step_keeps, within_reserve}
+use Rattle.ob_tree_law.specs.Work.{Task, TreeState, Answer, settled, opened_by, does_first, step}
+use Rattle.ob_tree_law.specs.Work as Work
+use Rattle.ob_tree_law.specs.Reserve.{activation_most, AnswerKeepsWithin}
+use Rattle.ob_tree_law.proofs.Opening.{opened_by_kept}
+use Rattle.ob_tree_law.proofs.Ready.{IsReady, opened_left}
+use Rattle.ob_tree_law.proofs.Within.{opened_by_low, step_keeps, within_reserve}
 use Rattle.ob_tree_law.specs.TreeEngine.{TreeRun, tree_shown, tree_step, IsOpened, IsTreeReady}
 use Rattle.ob_tree_law.proofs.TreeLaw.{AnswerStands, step_stands}
 use Rattle.ob_tree_tasks.specs.Opening.{CanBeOpened}

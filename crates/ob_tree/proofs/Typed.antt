@@ -7,7 +7,7 @@ use Rattle.ob_interface.specs.declared.export.Formal.{Formal}
 use Rattle.ob_interface.specs.declared.scalar.Scalar.{Scalar}
 use Rattle.ob_interface.specs.declared.scalar.ScalarType.{ScalarType}
 use Rattle.ob_interface.specs.Export.{ArgumentsFit, type_of}
-use Rattle.ob_code_law.specs.CodeMeaning.{value_count}
+use Rattle.ob_code_correct.specs.CodeMeaning.{value_count}
 
 one_no : (b : Bool) (n : ℕ) → cond b n (suc n) ≡ cond (not b) (1 + n) n
 one_no true n = refl

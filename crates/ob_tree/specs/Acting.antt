@@ -5,8 +5,8 @@ use Rattle.ob_typing.specs.Program.{Expression, Program}
 use Rattle.wf_table.specs.declared.engine_turn.EngineTurn.{EngineTurn}
 use Rattle.wf_table.specs.declared.engine_turn.EngineTurn.TheVariants.{On, Returned, Trapped, Stuck}
 use Rattle.wf_table.specs.Meaning.{Turned}
-use Rattle.ob_tree_work.specs.Work.{Task, TreeState, Answer}
-use Rattle.ob_tree_work.specs.Work as Work
+use Rattle.ob_tree_law.specs.Work.{Task, TreeState, Answer}
+use Rattle.ob_tree_law.specs.Work as Work
 use Rattle.ob_tree_tasks.specs.WorkTasks.{behind}
 use Rattle.ob_tree_law.specs.TreeEngine.{TreeRun}
 

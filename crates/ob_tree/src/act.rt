@@ -4,7 +4,7 @@ ghost use Rattle.ob_typing.specs.Program.{Program};
 ghost use Rattle.ob_checked.specs.View.{branches_in, expression_of, otherwise_of, statements_in};
 ghost use Rattle.ob_tree.specs.Acting.{Decides, Does, DoesAlways, HasFirst};
 ghost use Rattle.ob_tree_tasks.specs.Scoped.{own_in};
-ghost use Rattle.ob_tree_work.specs.Work as Work;
+ghost use Rattle.ob_tree_law.specs.Work as Work;
 
 use crate::effects::effect_at_once;
 use crate::run::TreeRun;

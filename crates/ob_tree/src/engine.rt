@@ -2,25 +2,25 @@
 
 ghost use Rattle.std.specs.Prelude.{◌≡◌, ◌≤◌, option_copied, slice_get};
 ghost use Rattle.ob_checked.specs.CheckedModule.{program_in};
-ghost use Rattle.ob_code_law.specs.CodeMeaning.{most, result_count, value_count};
-ghost use Rattle.ob_code_law.specs.Compiled.{entrances_from};
-ghost use Rattle.ob_code_layout.specs.Layout.{layout_of, parts_of};
+ghost use Rattle.ob_code_correct.specs.CodeMeaning.{most, result_count, value_count};
+ghost use Rattle.ob_code_correct.specs.Compiled.{entrances_from};
+ghost use Rattle.ob_layout.specs.Layout.{layout_of, parts_of};
 ghost use Rattle.ob_code_scheme.specs.Temporaries as Temporaries;
 ghost use Rattle.ob_code_scheme.specs.WellFormed.{IsWellFormed};
-ghost use Rattle.ob_meaning.specs.Object.{most_turns};
+ghost use Rattle.ob_meaning.specs.ByNameObject.{most_turns};
 ghost use Rattle.ob_tree_law.specs.TreeEngine.{work_room};
 
 use crate::reserve::room_for_work;
 use crate::run::TreeRun;
 use ob_checked::checked::Checked;
+use ob_code_correct::well_formed_laws::checked_is_well_formed;
 use ob_code_engine::Entrance;
 use ob_code_engine::entrance::{entrances, most_results, most_values};
 use ob_code_engine::words::{arguments_in, lay, split, trap_in, values_of};
-use ob_code_layout::Layout;
-use ob_code_well_formed::laws::checked_is_well_formed;
 use ob_interface::NoMemory;
 use ob_interface::call::{Call, Reply};
 use ob_interface::scalar::Scalar;
+use ob_layout::Layout;
 use smallvec::SmallVec;
 use std::alloc::Global;
 use wf_object::{Engine, EngineTurn};
@@ -58,8 +58,8 @@ fn entrance_at(exports: &[Entrance], number: usize) -> Option<&Entrance>
 
 impl<'a> TreeEngine<'a> {
     ghost use Rattle.std.specs.Prelude.{IfOk};
-    ghost use Rattle.ob_code_law.specs.CodeMeaning as Words;
-    ghost use Rattle.ob_code_law.specs.Compiled as Compiled;
+    ghost use Rattle.ob_code_correct.specs.CodeMeaning as Words;
+    ghost use Rattle.ob_code_correct.specs.Compiled as Compiled;
     ghost use Rattle.ob_tree.specs.View.{tree_parts_in};
 
     /// The engine of a checked module, by its layout, with a budget of turns for each call.
@@ -125,8 +125,8 @@ impl<'a> TreeEngine<'a> {
 }
 
 impl<'a> Engine for TreeEngine<'a> {
-    ghost use Rattle.ob_code_law.specs.Compiled.{Fits, parts_of as code_parts};
-    ghost use Rattle.ob_code_law.specs.Parts.{IsEffectOf, IsLawfulFor};
+    ghost use Rattle.ob_code_correct.specs.Compiled.{Fits, parts_of as code_parts};
+    ghost use Rattle.ob_code_correct.specs.Parts.{IsEffectOf, IsLawfulFor};
     ghost use Rattle.ob_tree_law.specs.TreeEngine.{IsTreeReady, tree_engine};
     ghost use Rattle.ob_tree_law.proofs.Whole.{tree_parts_lawful};
 

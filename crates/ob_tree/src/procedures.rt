@@ -1,16 +1,16 @@
 //! The work of a procedure.
 
 ghost use Rattle.std.specs.Prelude.{◌≡◌, map, option_copied, slice_get};
-ghost use Rattle.ob_code_layout.specs.Layout.{parts_of};
+ghost use Rattle.ob_layout.specs.Layout.{parts_of};
 ghost use Rattle.ob_code_scheme.specs.Types.{frame_scope};
 ghost use Rattle.ob_checked.specs.View.{program_of};
 ghost use Rattle.ob_tree.specs.Procedures.{AreSmallFrames};
 ghost use Rattle.ob_tree_tasks.specs.WorkTasks.{HasRoomFor, with_tasks};
-ghost use Rattle.ob_tree_work.specs.Work.{procedure_tasks};
+ghost use Rattle.ob_tree_law.specs.Work.{procedure_tasks};
 
 use ob_checked::program::{Procedure, Program};
-use ob_code_layout::Layout;
 use ob_code_machine::Instr;
+use ob_layout::Layout;
 use ob_tree_tasks::{Scopes, Task, WorkList};
 
 /// The procedure of a number, in the order of headings.

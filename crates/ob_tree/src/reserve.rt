@@ -4,7 +4,7 @@ ghost use Rattle.std.specs.Prelude.{◌≡◌, ◌≤◌, ◌∷◌, [], ◌+◌
 ghost use Rattle.ob_typing.specs.Program.{no_branch};
 ghost use Rattle.ob_tree.specs.Rooms.{most_room};
 ghost use Rattle.ob_tree_law.specs.TreeEngine.{work_room};
-ghost use Rattle.ob_tree_work.specs.Reserve as Counts;
+ghost use Rattle.ob_tree_law.specs.Reserve as Counts;
 ghost use Rattle.ob_checked.specs.Types.{Entry};
 ghost use Rattle.ob_checked.specs.CheckedModule.{program_in};
 ghost use Rattle.ob_checked.specs.View.{expression_of, operations_in, selectors_in, designator_of, actual_of, statement_of, statements_in, branches_in, procedure_of};

@@ -1,12 +1,12 @@
 //! How work is opened, until the task in front is not silent.
 
 ghost use Rattle.std.specs.Prelude.{◌≡◌};
-ghost use Rattle.ob_code_layout.specs.Layout.{block_in};
+ghost use Rattle.ob_layout.specs.Layout.{block_in};
 ghost use Rattle.ob_tree_tasks.specs.Opening.{CanBeOpened};
 ghost use Rattle.ob_tree_tasks.specs.WorkTasks.{with_tasks};
-ghost use Rattle.ob_tree_work.specs.Work.{opened};
+ghost use Rattle.ob_tree_law.specs.Work.{opened};
 
-use ob_code_layout::Layout;
+use ob_layout::Layout;
 use ob_tree_tasks::{WorkList, open};
 
 /// Opens silent tasks in front, until there is none.

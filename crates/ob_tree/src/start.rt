@@ -2,7 +2,7 @@
 
 ghost use Rattle.std.specs.Prelude.{◌≡◌, ◌≤◌, map, slice_get};
 ghost use Rattle.ob_checked.specs.View.{program_of};
-ghost use Rattle.ob_code_layout.specs.Layout.{parts_of};
+ghost use Rattle.ob_layout.specs.Layout.{parts_of};
 ghost use Rattle.ob_code_scheme.specs.Layout.{variable_words};
 ghost use Rattle.ob_code_scheme.specs.Types.{frame_scope};
 ghost use Rattle.ob_tree.specs.Procedures.{AreSmallFrames};
@@ -12,9 +12,9 @@ ghost use Rattle.ob_tree_law.specs.TreeEngine.{over_run, tree_entered};
 use crate::procedures::{procedure_at, push_procedure};
 use crate::run::TreeRun;
 use ob_checked::program::Program;
-use ob_code_layout::Layout;
 use ob_code_machine::Argument;
 use ob_code_machine::entering::{push_arguments, result_count};
+use ob_layout::Layout;
 
 impl<'a> TreeRun<'a> {
     /// Ends the body: it holds nothing.

@@ -2,21 +2,21 @@
 
 ghost use Rattle.std.specs.Prelude.{◌≡◌, ◌+◌, ◌≤◌, ℤ, List, length, map};
 ghost use Rattle.ob_checked.specs.View.{program_of};
-ghost use Rattle.ob_code_layout.specs.Layout.{block_in, parts_of};
+ghost use Rattle.ob_layout.specs.Layout.{block_in, parts_of};
 ghost use Rattle.ob_code_scheme.specs.Types.{frame_scope, variables_scope};
 ghost use Rattle.ob_tree.specs.Acting.{Does, DoesFirst, HasFirst};
 ghost use Rattle.ob_tree.specs.Procedures.{AreSmallFrames};
 ghost use Rattle.ob_tree.specs.Stepping.{CanStep};
 ghost use Rattle.ob_tree_law.specs.TreeEngine.{tree_step};
 ghost use Rattle.ob_tree_tasks.specs.Tasks.{task_of};
-ghost use Rattle.ob_tree_work.specs.Work as Work;
+ghost use Rattle.ob_tree_law.specs.Work as Work;
 
 use crate::frames::Frames;
 use crate::procedures::push_procedure;
 use crate::run::TreeRun;
 use crate::settle::settle;
 use ob_checked::program::Program;
-use ob_code_layout::Layout;
+use ob_layout::Layout;
 use ob_tree_tasks::Task;
 use wf_object::EngineTurn;
 

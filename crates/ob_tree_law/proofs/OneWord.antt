@@ -8,8 +8,8 @@ use Rattle.ob_code_machine.specs.Effect.{popped, effect}
 use Rattle.ob_code_scheme.specs.Types.{variables_scope}
 use Rattle.wf_table.specs.Meaning.{Turned}
 use Rattle.wf_table.specs.Law.{TouchesOneWord}
-use Rattle.ob_code_law.proofs.OneWord.{place_of, IsSameAt, left_of, on_other, keeps, effect_follows}
-use Rattle.ob_tree_work.specs.Work.{Task, Instruction, AndThen, OrElse, Alternative, Over, Looping, Again, Until, Taking, Calling, Leaving, TreeBody, TreeState, Answer, On, Finished, Failed, Lost, opened, made_on, taking, leaving_to, does, does_first, step}
+use Rattle.ob_code_correct.proofs.OneWord.{place_of, IsSameAt, left_of, on_other, keeps, effect_follows}
+use Rattle.ob_tree_law.specs.Work.{Task, Instruction, AndThen, OrElse, Alternative, Over, Looping, Again, Until, Taking, Calling, Leaving, TreeBody, TreeState, Answer, On, Finished, Failed, Lost, opened, made_on, taking, leaving_to, does, does_first, step}
 use Rattle.ob_tree_law.specs.TreeEngine.{TreeRun, tree_shown, tree_step, tree_engine}
 
 -- the place of the word; behind a block of so many words where there is none

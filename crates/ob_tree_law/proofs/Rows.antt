@@ -4,16 +4,16 @@ use Rattle.std.proofs.Common.{◌≡◌, ℕ, zero, suc, max, pos, List, [], ◌
 use Rattle.std.specs.Prelude.{slice_get}
 use Rattle.ob_interface.specs.declared.scalar.Scalar.{Scalar}
 use Rattle.ob_interface.specs.declared.scalar.Scalar.TheVariants.{Int}
-use Rattle.ob_positions.specs.Value.{Single}
-use Rattle.ob_positions.specs.Store.{Activation, Holds}
+use Rattle.ob_meaning.specs.ByPositionValue.{Single}
+use Rattle.ob_meaning.specs.ByPositionStore.{Activation, Holds}
 use Rattle.ob_typing.specs.Program.{Procedure, Program}
 use Rattle.ob_code_scheme.specs.Types.{variables_scope}
 use Rattle.ob_code_scheme.specs.Temporaries.{stack_words}
 use Rattle.ob_code_scheme.specs.Layout.{encoded, variable_words}
 use Rattle.ob_code_scheme.specs.Correct.{arguments_of}
 use Rattle.ob_code_scheme.proofs.Samples.{down, up, choosing, filling}
-use Rattle.ob_tree_work.specs.Work.{TreeState, Answer, On, Finished, Failed, opened, tree_start, step, steps}
-use Rattle.ob_tree_work.specs.Reserve.{activation_most}
+use Rattle.ob_tree_law.specs.Work.{TreeState, Answer, On, Finished, Failed, opened, tree_start, step, steps}
+use Rattle.ob_tree_law.specs.Reserve.{activation_most}
 
 abbrev begun_of : Program → ℕ → Option Procedure → List Scalar → ℕ → Activation → TreeState
 begun_of program i None arguments budget state = tree_start program.procedures i 0 [] budget []

@@ -13,17 +13,17 @@ use Rattle.ob_code_machine.specs.Machine as Machine
 use Rattle.ob_code_machine.specs.declared.argument.Argument.{Argument}
 use Rattle.ob_code_machine.specs.Body.{Run, enter, empty, entered, shown, result_count as results_of}
 use Rattle.ob_code_scheme.specs.Scheme.{procedure_size, entry_of, entries_from, code_of}
-use Rattle.ob_code_placing.proofs.Entries.{entry_is}
+use Rattle.ob_code_correct.proofs.Entries.{entry_is}
 use Rattle.wf_table.specs.declared.engine_turn.EngineTurn.TheVariants.{Trapped}
 use Rattle.wf_table.specs.Meaning.{Turned, after_turn, steps, body}
-use Rattle.ob_code_law.specs.CodeMeaning.{Entrance, entrance_at, arguments_in, first_word, other_words, started, turned}
-use Rattle.ob_code_law.specs.Compiled.{entrances_from, parts_of, engine_of}
-use Rattle.ob_tree_work.specs.Work.{Task, TreeBody, TreeState, Answer, opened, settled, procedure_tasks, tree_enter, step}
-use Rattle.ob_tree_work.specs.Work as Work
-use Rattle.ob_tree_work.specs.Places.{Reads, tree_at, Alike}
-use Rattle.ob_tree_work.proofs.Opening.{opened_kept}
-use Rattle.ob_tree_work.proofs.Alike.{step_alike, start_stands}
-use Rattle.ob_tree_work.proofs.Standing.{is_placed}
+use Rattle.ob_code_correct.specs.CodeMeaning.{Entrance, entrance_at, arguments_in, first_word, other_words, started, turned}
+use Rattle.ob_code_correct.specs.Compiled.{entrances_from, parts_of, engine_of}
+use Rattle.ob_tree_law.specs.Work.{Task, TreeBody, TreeState, Answer, opened, settled, procedure_tasks, tree_enter, step}
+use Rattle.ob_tree_law.specs.Work as Work
+use Rattle.ob_tree_law.specs.Places.{Reads, tree_at, Alike}
+use Rattle.ob_tree_law.proofs.Opening.{opened_kept}
+use Rattle.ob_tree_law.proofs.Alike.{step_alike, start_stands}
+use Rattle.ob_tree_law.proofs.Standing.{is_placed}
 use Rattle.ob_tree_law.specs.TreeLaw.{Shows, BodiesShowTheSame}
 use Rattle.ob_tree_law.specs.TreeEngine.{TreeRun, over_run, going_run, tree_entered, tree_started, tree_shown, tree_engine}
 

@@ -17,17 +17,17 @@ use Rattle.ob_code_machine.specs.Body.{Run, result_count as results_of}
 use Rattle.wf_table.specs.declared.engine_turn.EngineTurn.TheVariants.{Returned, Trapped, Stuck}
 use Rattle.wf_table.specs.Meaning.{Turned, Meaning, is_over, body, kept}
 use Rattle.wf_table.specs.Law.{Effects, IsLawful, HasReturned, HasTrapped, Reaches, ReachesTrap}
-use Rattle.ob_code_law.specs.CodeMeaning.{Entrance, entrance_at, arguments_in, first_word, other_words}
-use Rattle.ob_code_law.specs.Compiled.{entrances_from, engine_of}
-use Rattle.ob_tree_work.specs.Work.{Task, TreeBody, TreeState, Answer, tree_enter, procedure_tasks, work_nodes, opened, settled, step}
-use Rattle.ob_tree_work.specs.Work as Work
-use Rattle.ob_tree_work.specs.Places.{Reads, tree_at, Alike}
-use Rattle.ob_tree_work.specs.Reserve.{activation_most, AnswerKeepsWithin}
-use Rattle.ob_tree_work.proofs.Alike.{step_alike, start_stands}
-use Rattle.ob_tree_work.proofs.Opening.{opened_kept}
-use Rattle.ob_tree_work.proofs.Standing.{is_placed}
-use Rattle.ob_tree_work.proofs.Ready.{IsReady, opened_ready}
-use Rattle.ob_tree_work.proofs.Within.{opened_by_low, start_low, step_keeps}
+use Rattle.ob_code_correct.specs.CodeMeaning.{Entrance, entrance_at, arguments_in, first_word, other_words}
+use Rattle.ob_code_correct.specs.Compiled.{entrances_from, engine_of}
+use Rattle.ob_tree_law.specs.Work.{Task, TreeBody, TreeState, Answer, tree_enter, procedure_tasks, work_nodes, opened, settled, step}
+use Rattle.ob_tree_law.specs.Work as Work
+use Rattle.ob_tree_law.specs.Places.{Reads, tree_at, Alike}
+use Rattle.ob_tree_law.specs.Reserve.{activation_most, AnswerKeepsWithin}
+use Rattle.ob_tree_law.proofs.Alike.{step_alike, start_stands}
+use Rattle.ob_tree_law.proofs.Opening.{opened_kept}
+use Rattle.ob_tree_law.proofs.Standing.{is_placed}
+use Rattle.ob_tree_law.proofs.Ready.{IsReady, opened_ready}
+use Rattle.ob_tree_law.proofs.Within.{opened_by_low, start_low, step_keeps}
 use Rattle.ob_tree_law.specs.TreeLaw.{Shows}
 use Rattle.ob_tree_law.specs.TreeEngine.{TreeRun, over_run, going_run, tree_entered, tree_started, tree_shown, tree_step, tree_engine, IsOpened, StandsInCode, IsTreeReady}
 use Rattle.ob_tree_law.proofs.Block.{tree_step_long}

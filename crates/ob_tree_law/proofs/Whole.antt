@@ -2,12 +2,12 @@
 use Rattle.std.proofs.Common.{refl}
 use Rattle.std.proofs.Math.Logic.{∥∥₁_map}
 use Rattle.ob_code_correct.proofs.Law.{code_correct}
-use Rattle.ob_code_law.specs.Compiled.{parts_of, Fits, HasReserve, IsLawfulBlock, IsEffect}
-use Rattle.ob_code_law.specs.Parts.{HasProgram, IsLawfulFor, IsEffectOf}
-use Rattle.ob_code_law.proofs.CodeLaw as Code
-use Rattle.ob_code_law.proofs.PartsLaw.{parts_lawful}
-use Rattle.ob_tree_work.specs.LikeCode.{TreeIsCorrect}
-use Rattle.ob_tree_work.proofs.Theorem.{tree_is_correct}
+use Rattle.ob_code_correct.specs.Compiled.{parts_of, Fits, HasReserve, IsLawfulBlock, IsEffect}
+use Rattle.ob_code_correct.specs.Parts.{HasProgram, IsLawfulFor, IsEffectOf}
+use Rattle.ob_code_correct.proofs.CodeLaw as Code
+use Rattle.ob_code_correct.proofs.PartsLaw.{parts_lawful}
+use Rattle.ob_tree_law.specs.LikeCode.{TreeIsCorrect}
+use Rattle.ob_tree_law.proofs.Theorem.{tree_is_correct}
 use Rattle.ob_tree_law.specs.TreeLaw.{TreeIsLawful, TreePartsAreLawful, TreeBodiesEnd, TreeScriptsEnd}
 use Rattle.ob_tree_law.proofs.TreeLaw.{tree_lawful, tree_ends}
 

@@ -10,12 +10,12 @@ use Rattle.ob_code_scheme.specs.Scheme.{entry_of, code_of}
 use Rattle.ob_code_machine.specs.declared.saved.Saved.{Saved}
 use Rattle.wf_table.specs.declared.engine_turn.EngineTurn.TheVariants.{On, Returned, Trapped, Stuck}
 use Rattle.wf_table.specs.Meaning.{Turned, Meaning}
-use Rattle.ob_code_law.specs.CodeMeaning.{Entrance, entrance_at, arguments_in, first_word, other_words}
-use Rattle.ob_code_law.specs.Compiled.{engine_of, entrances_from}
-use Rattle.ob_tree_work.specs.Work.{Task, TreeBody, TreeState, Answer, settled, tree_enter, parts, step}
-use Rattle.ob_tree_work.specs.Work as Work
-use Rattle.ob_tree_work.specs.Places.{Reads, frames_of}
-use Rattle.ob_tree_work.specs.Reserve.{activation_most, work_reserve, KeepsWithin}
+use Rattle.ob_code_correct.specs.CodeMeaning.{Entrance, entrance_at, arguments_in, first_word, other_words}
+use Rattle.ob_code_correct.specs.Compiled.{engine_of, entrances_from}
+use Rattle.ob_tree_law.specs.Work.{Task, TreeBody, TreeState, Answer, settled, tree_enter, parts, step}
+use Rattle.ob_tree_law.specs.Work as Work
+use Rattle.ob_tree_law.specs.Places.{Reads, frames_of}
+use Rattle.ob_tree_law.specs.Reserve.{activation_most, work_reserve, KeepsWithin}
 
 -- ---- runs
 

@@ -6,9 +6,9 @@ use Rattle.ob_code_machine.specs.Body.{Run}
 use Rattle.ob_code_scheme.specs.WellFormed.{IsWellFormed}
 use Rattle.wf_table.specs.Meaning.{Turned, body}
 use Rattle.wf_table.specs.Law.{IsLawful}
-use Rattle.wf_bound.specs.Ends.{EndsWithin, AllEndWithin}
-use Rattle.ob_code_law.specs.Compiled.{parts_of, engine_of, Fits, IsLawfulBlock, IsEffect, body_limit}
-use Rattle.ob_code_law.specs.Parts.{IsLawfulFor, IsEffectOf}
+use Rattle.wf_table.specs.Ends.{EndsWithin, AllEndWithin}
+use Rattle.ob_code_correct.specs.Compiled.{parts_of, engine_of, Fits, IsLawfulBlock, IsEffect, body_limit}
+use Rattle.ob_code_correct.specs.Parts.{IsLawfulFor, IsEffectOf}
 use Rattle.ob_tree_law.specs.TreeEngine.{TreeRun, tree_engine, IsTreeReady}
 
 -- the same answer, block and words of results

@@ -1,7 +1,7 @@
 //! Laws of the engine over a program's tree. What a function here ensures is proved; it does nothing.
 
 ghost use Rattle.ob_tree_law.specs.TreeLaw.{BodiesShowTheSame, TreeBodiesEnd, TreeIsLawful, TreePartsAreLawful, TreeScriptsEnd};
-ghost use Rattle.ob_tree_work.specs.LikeCode.{TreeIsCorrect};
+ghost use Rattle.ob_tree_law.specs.LikeCode.{TreeIsCorrect};
 
 /// The tree of each well-formed program does what its procedures mean, in both directions, and ends in a stated number of steps.
 pub fn tree_is_correct()

@@ -1,8 +1,8 @@
 -- A silent task in front gives way to its parts, and what is in front of these gives way in turn.
 use Rattle.std.proofs.Common.{◌≡◌, suc, ◌+◌, ◌≤◌, List, ◌++◌, length, Option, Some, None, refl, ap, sym, ◌∙◌, subst, arith}
 use Rattle.ob_code_scheme.specs.Types.{Scope}
-use Rattle.ob_tree_work.specs.Work.{Task, parts, given_way, opened_by, opened, work_nodes}
-use Rattle.ob_tree_work.proofs.Ready.{gives_way, opened_on}
+use Rattle.ob_tree_law.specs.Work.{Task, parts, given_way, opened_by, opened, work_nodes}
+use Rattle.ob_tree_law.proofs.Ready.{gives_way, opened_on}
 use Rattle.ob_tree_tasks.specs.WorkTasks.{WorkTasks, with_first, before}
 use Rattle.ob_tree_tasks.specs.Opening.{IsSmallTask, FirstFits, CanBeOpened, GivesWay}
 

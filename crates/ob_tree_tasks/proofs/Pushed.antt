@@ -21,7 +21,7 @@ use Rattle.ob_checked.specs.declared.program.Statement.{Statement}
 use Rattle.ob_checked.specs.declared.program.Statement.TheVariants as Statements
 use Rattle.ob_checked.specs.View.{expression_of, operations_in, selectors_in, designator_of, actual_of, statement_of, statements_in, branches_in, otherwise_of}
 use Rattle.ob_checked.proofs.Rows.{expression_of-computed, expression_of-value, statement_of-if, statement_of-while, statement_of-repeat}
-use Rattle.ob_tree_work.specs.Work.{Task, Value, Operators, Address, Selecting, Handing, Doing, All, Choosing, Instruction, Alternative, Calling, operator_tasks, operators_left, selecting_left, handing_left, all_left, value_parts, operators_parts, selecting_parts, handing_parts, doing_parts, all_parts, choosing_parts}
+use Rattle.ob_tree_law.specs.Work.{Task, Value, Operators, Address, Selecting, Handing, Doing, All, Choosing, Instruction, Alternative, Calling, operator_tasks, operators_left, selecting_left, handing_left, all_left, value_parts, operators_parts, selecting_parts, handing_parts, doing_parts, all_parts, choosing_parts}
 use Rattle.ob_tree_tasks.specs.Opening.{field_tasks, element_tasks, is_more}
 use Rattle.ob_tree_tasks.specs.WorkTasks.{WorkTasks, with_tasks, with_first, before}
 

@@ -11,7 +11,7 @@ use Rattle.ob_typing.specs.Program.{DataType, Simple, Array, Record, Fields, no_
 use Rattle.ob_code_machine.specs.contracts.instr.Instr as Instrs
 use Rattle.ob_code_machine.specs.declared.instr.Instr.{Instr}
 use Rattle.ob_code_scheme.specs.Types.{Space, Holding, Referring, Scope}
-use Rattle.ob_tree_work.specs.Work.{Task, Value, Operators, Address, Selecting, Handing, Doing, All, Choosing, Instruction, AndThen, OrElse, Alternative, Over, Looping, Again, Until, Taking, Calling, Leaving}
+use Rattle.ob_tree_law.specs.Work.{Task, Value, Operators, Address, Selecting, Handing, Doing, All, Choosing, Instruction, AndThen, OrElse, Alternative, Over, Looping, Again, Until, Taking, Calling, Leaving}
 
 -- ---- tags of variants
 

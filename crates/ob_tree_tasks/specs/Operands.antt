@@ -6,7 +6,7 @@ use Rattle.ob_checked.specs.declared.program.Expression as Checked
 use Rattle.ob_code_scheme.specs.Types.{Scope}
 use Rattle.ob_tree_tasks.specs.Opening.{GivesWay}
 use Rattle.ob_tree_tasks.specs.WorkTasks.{WorkTasks, before, with_first, with_tasks}
-use Rattle.ob_tree_work.specs.Work.{Value, operator_tasks, value_parts}
+use Rattle.ob_tree_law.specs.Work.{Value, operator_tasks, value_parts}
 use Rattle.ob_typing.specs.Program.{Expression}
 use Rattle.ob_typing.specs.declared.operator.BinaryOperator.{BinaryOperator}
 

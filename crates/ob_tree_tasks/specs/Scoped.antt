@@ -3,8 +3,8 @@ use Rattle.ob_typing.specs.Program as Program
 use Rattle.ob_code_scheme.specs.Types.{Scope}
 use Rattle.ob_checked.specs.Types.{type_by}
 use Rattle.ob_checked.specs.declared.types.DataType.{DataType}
-use Rattle.ob_code_layout.specs.declared.layout.Layout.{Layout}
-use Rattle.ob_code_layout.specs.Layout as Laid
+use Rattle.ob_layout.specs.declared.layout.Layout.{Layout}
+use Rattle.ob_layout.specs.Layout as Laid
 use Rattle.ob_tree_tasks.specs.declared.scopes.Scopes.{Scopes}
 
 -- the type that a number stands for

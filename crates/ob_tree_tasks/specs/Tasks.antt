@@ -5,7 +5,7 @@ use Rattle.ob_checked.specs.View.{expression_of, operations_in, selectors_in, ac
 use Rattle.ob_checked.specs.declared.program.Expression.{Expression}
 use Rattle.ob_checked.specs.declared.program.Statement.{Statement}
 use Rattle.ob_code_scheme.specs.Types.{Scope}
-use Rattle.ob_tree_work.specs.Work as Work
+use Rattle.ob_tree_law.specs.Work as Work
 use Rattle.ob_tree_tasks.specs.Scoped.{own_in, type_in}
 use Rattle.ob_tree_tasks.specs.declared.task.Task.{Task}
 use Rattle.ob_tree_tasks.specs.declared.task.Task.TheVariants.{Value, Operators, Selecting, Handing, While, Repeat, All, Choosing, Instruction, AndThen, OrElse, Alternative, Over, Looping, Again, Until, Taking, Calling, Leaving}

@@ -1,7 +1,7 @@
 -- A work list of a fixed size.
 use Rattle.std.specs.Prelude.{ℕ, ◌+◌, ◌≤◌, List, [], ◌∷◌, ◌++◌, length, refl}
 use Rattle.std.specs.Coded.{Coded, coded_ℕ, coded_list, coded×, code_by}
-use Rattle.ob_tree_work.specs.Work.{Task}
+use Rattle.ob_tree_law.specs.Work.{Task}
 use Rattle.ob_tree_tasks.specs.Codes.{coded_task}
 
 -- the tasks that there is room for, and those that it holds, the next one first

@@ -8,21 +8,21 @@ ghost use Rattle.ob_code_scheme.specs.Types as Sizes;
 ghost use Rattle.ob_code_scheme.specs.Types.{Scope};
 ghost use Rattle.ob_typing.specs.Program as Program;
 ghost use Rattle.ob_checked.specs.View.{owner_of, actual_of, designator_of, expression_of, operations_in, selectors_in};
-ghost use Rattle.ob_code_layout.specs.Layout.{block_in};
+ghost use Rattle.ob_layout.specs.Layout.{block_in};
 ghost use Rattle.ob_tree_tasks.specs.Opening.{CanBeOpened, GivesWay, element_tasks, field_tasks, global_tasks, own_variable_tasks};
 ghost use Rattle.ob_tree_tasks.specs.Operands.{OpensOperator, OpensOuter};
 ghost use Rattle.ob_tree_tasks.specs.Scoped.{own_in, type_in};
 ghost use Rattle.ob_tree_tasks.specs.WorkTasks.{HasRoom, HasRoomFor, before, with_first, with_tasks};
-ghost use Rattle.ob_tree_work.specs.Work as Work;
+ghost use Rattle.ob_tree_law.specs.Work as Work;
 
 use crate::scopes::Scopes;
 use crate::task::Task;
 use crate::work_list::WorkList;
 use ob_checked::program::{Actual, Designator, Expression, Operation, Owner, Selector};
 use ob_checked::types::DataType;
-use ob_code_layout::Layout;
 use ob_code_machine::Instr;
 use ob_interface::scalar::Scalar;
+use ob_layout::Layout;
 use ob_typing::operator::{BinaryOperator, Relation};
 
 /// The number of a literal: TRUE is 1 and FALSE is 0.

@@ -1,14 +1,14 @@
 //! How silent tasks give way to their parts.
 
 ghost use Rattle.std.specs.Prelude.{◌≡◌, true};
-ghost use Rattle.ob_code_layout.specs.Layout.{block_in};
+ghost use Rattle.ob_layout.specs.Layout.{block_in};
 ghost use Rattle.ob_tree_tasks.specs.Opening.{CanBeOpened, GivesWay, starts_silent};
 
 use crate::expressions::{open_handing, open_operators, open_selecting, open_value};
 use crate::statements::{open_all, open_choosing, open_repeat, open_while};
 use crate::task::Task;
 use crate::work_list::WorkList;
-use ob_code_layout::Layout;
+use ob_layout::Layout;
 
 /// The silent task in front gives way to its parts. It stands apart from the steps that open nothing, which are most of them.
 #[inline(never)]

@@ -1,6 +1,6 @@
 //! In which procedure parts of the tree stand.
 
-use ob_code_layout::Layout;
+use ob_layout::Layout;
 
 /// The layout of a program, and the number of one of its procedures: so the scope of its frame is known.
 #[derive(Clone, Copy)]

@@ -2,21 +2,21 @@
 
 ghost use Rattle.std.specs.Prelude.{◌≡◌, ◌+◌, ◌≤◌, length};
 ghost use Rattle.ob_checked.specs.View.{branches_in, otherwise_of, statement_of, statements_in};
-ghost use Rattle.ob_code_layout.specs.Layout.{block_in};
+ghost use Rattle.ob_layout.specs.Layout.{block_in};
 ghost use Rattle.ob_code_scheme.specs.Types.{Scope};
 ghost use Rattle.ob_tree_tasks.specs.Opening.{CanBeOpened, GivesWay, is_more};
 ghost use Rattle.ob_tree_tasks.specs.Scoped.{own_in};
 ghost use Rattle.ob_tree_tasks.specs.Tasks.{repeat_task, while_task};
 ghost use Rattle.ob_tree_tasks.specs.WorkTasks.{HasRoom, before, with_first};
-ghost use Rattle.ob_tree_work.specs.Work as Work;
+ghost use Rattle.ob_tree_law.specs.Work as Work;
 
 use crate::expressions::{open_address, open_handing, open_value};
 use crate::scopes::Scopes;
 use crate::task::Task;
 use crate::work_list::WorkList;
 use ob_checked::program::{Branch, Expression, Statement};
-use ob_code_layout::Layout;
 use ob_code_machine::Instr;
+use ob_layout::Layout;
 
 /// A statement.
 fn open_doing<'a>(

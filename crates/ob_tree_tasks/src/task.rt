@@ -3,8 +3,8 @@
 use crate::scopes::Scopes;
 use ob_checked::program::{Actual, Branch, Expression, Operation, Selector, Statement};
 use ob_checked::types::DataType;
-use ob_code_layout::Layout;
 use ob_code_machine::Instr;
+use ob_layout::Layout;
 
 /// What is still to be done. Tasks over parts of the tree know the scopes that these stand in. Some are silent, and give way to tasks
 /// over smaller parts; each other one does what one instruction of the code does.

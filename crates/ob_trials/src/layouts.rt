@@ -1,9 +1,9 @@
 //! The words of variables and of their parts.
 
-use ob_code_layout::{Layout, encode};
-use ob_interpreter::opening::opening;
+use ob_check::modules::check;
+use ob_layout::{Layout, encode};
+use ob_mean::opening::opening;
 use ob_syntax::reader::read;
-use ob_whole_check::modules::check;
 use std::test::Fail;
 
 const PARTS: &[u8] = b"MODULE Y; VAR a: ARRAY 3 OF RECORD p: INTEGER; q: BOOLEAN END; z: INTEGER; \

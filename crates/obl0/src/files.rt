@@ -2,13 +2,13 @@
 
 ghost use Rattle.std.specs.Prelude.{◌≡◌, ◌≢◌, ◌≤◌, length, IfOk, IfSome, None, Some, true};
 ghost use Rattle.obl0.specs.Refusals.{file_fault};
-ghost use Rattle.ob_call_counts.specs.Counts.{CountsCalls};
+ghost use Rattle.ob_fault_lines.specs.Counts.{CountsCalls};
 ghost use Rattle.ob_device.specs.Devices.{IsAll};
 
 use ob_answer::answer::INPUT_NAME;
 use ob_answer_files::files::{FileFault, Files};
-use ob_call_counts::counts::script_calls;
 use ob_device::{Counted, IoFault, slurp};
+use ob_fault_lines::counts::script_calls;
 use std::alloc::Global;
 use std::io::Read;
 use std::rt::Files as HostRead;

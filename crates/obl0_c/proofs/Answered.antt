@@ -2,7 +2,7 @@
 use Rattle.std.proofs.Common.{◌≡◌, ℕ, List, Option, None, Some, Result, Ok, Err, IfOk, subst, sym}
 use Rattle.ob_answer_files.specs.Printed.{IsRefused}
 use Rattle.ob_answer_files.specs.declared.answered.Answer.{Answer}
-use Rattle.ob_handed.specs.Texts.{AreTexts, AreTextsIn}
+use Rattle.ob_answer_files.specs.Texts.{AreTexts, AreTextsIn}
 use Rattle.obl0_c.specs.Asked.{AreUtf8, AreWordsIn, IsJoinedAnswer, IsTextsAnswer, IsWordsAnswer, apart, asked, files_cut, no_texts, words_cut}
 
 -- the answer to words is that to the texts that they are

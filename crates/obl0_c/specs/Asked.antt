@@ -7,9 +7,9 @@ use Rattle.ob_answer_files.specs.Reads.{IsBeginning}
 use Rattle.ob_answer_files.specs.declared.answered.Answer.{Answer}
 use Rattle.ob_command.specs.CommandLine.{Text, request}
 use Rattle.ob_command.specs.declared.command.CallsCommand.{CallsCommand}
-use Rattle.ob_handed.specs.Files.{IsGivenRead, texts_of}
-use Rattle.ob_handed.specs.Texts.{AreTexts}
-use Rattle.ob_handed.specs.declared.files.GivenFiles.{GivenFiles}
+use Rattle.ob_answer_files.specs.Files.{IsGivenRead, texts_of}
+use Rattle.ob_answer_files.specs.Texts.{AreTexts}
+use Rattle.ob_answer_files.specs.declared.handed_files.GivenFiles.{GivenFiles}
 use Rattle.ob_object_compile.specs.Asked.{Asked, by_body}
 
 -- the name of a module whose text is handed in

@@ -15,9 +15,9 @@ use Rattle.wf_table.specs.Table.{Process, cell_after, row}
 use Rattle.wf_table.specs.Object.{State, event_at, noted, step_by, step_of}
 use Rattle.wf_table.specs.Schedule.{counted}
 use Rattle.wf_table.proofs.Stuck.{set_same}
-use Rattle.wf_bound.specs.declared.spent.Spent.{Spent}
-use Rattle.wf_bound.specs.Spent.{has_more, spent_after, unspent}
-use Rattle.wf_bound.specs.Counted.{count_by, spent_by_step}
+use Rattle.wf_table.specs.declared.spent.Spent.{Spent}
+use Rattle.wf_table.specs.Spent.{has_more, spent_after, unspent}
+use Rattle.wf_table.specs.Counted.{count_by, spent_by_step}
 use Rattle.wf_object.specs.Halted.{is_halted_by}
 use Rattle.wf_object.specs.InARow.{after_steps, spent_after_steps}
 use Rattle.wf_object.specs.Kept.{IsKept}

@@ -8,9 +8,9 @@ use Rattle.wf_table.specs.Meaning.{Meaning}
 use Rattle.wf_table.specs.Law.{Effects, IsLawful}
 use Rattle.wf_table.specs.Table.{Process}
 use Rattle.wf_table.specs.Object.{State, step_by}
-use Rattle.wf_bound.specs.declared.spent.Spent.{Spent}
-use Rattle.wf_bound.specs.Spent.{unspent, spent_after}
-use Rattle.wf_bound.specs.Counted.{count_by}
+use Rattle.wf_table.specs.declared.spent.Spent.{Spent}
+use Rattle.wf_table.specs.Spent.{unspent, spent_after}
+use Rattle.wf_table.specs.Counted.{count_by}
 use Rattle.wf_object.specs.InARow.{after_steps, spent_after_steps}
 use Rattle.wf_object.specs.Kept.{IsKept}
 use Rattle.wf_object.proofs.Keeps.{step_kept}

@@ -16,11 +16,11 @@ use Rattle.wf_table.specs.Schedule.{counted}
 use Rattle.wf_table.specs.Table.{Process, after_body, cell_after, own_block, row}
 use Rattle.wf_table.specs.Object.{State, event_at, label_by, label_of, noted, step_by, step_of}
 use Rattle.wf_table.proofs.Stuck.{set_same}
-use Rattle.wf_bound.specs.declared.spent.Spent.{Spent}
-use Rattle.wf_bound.specs.Spent.{unspent, spent_after, has_more}
-use Rattle.wf_bound.specs.Counted.{count_by, spent_of}
-use Rattle.wf_help.proofs.Blocks.{take_refilled}
-use Rattle.wf_help.proofs.Bodies.{steps_more}
+use Rattle.wf_table.specs.declared.spent.Spent.{Spent}
+use Rattle.wf_table.specs.Spent.{unspent, spent_after, has_more}
+use Rattle.wf_table.specs.Counted.{count_by, spent_of}
+use Rattle.wf_table.proofs.Blocks.{take_refilled}
+use Rattle.wf_table.proofs.HelpBodies.{steps_more}
 use Rattle.wf_object.specs.InARow.{AreInBody, after_steps, spent_after_steps}
 use Rattle.wf_object.specs.InBody.{body_behind}
 use Rattle.wf_records.specs.Times.{counted_times}

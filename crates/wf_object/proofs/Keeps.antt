@@ -17,16 +17,16 @@ use Rattle.wf_table.proofs.Frame.{each_after}
 use Rattle.wf_table.proofs.KeepsSound.{keeps_sound}
 use Rattle.wf_table.proofs.StartSound.{start_sound}
 use Rattle.wf_table.proofs.SubmitSound.{submit_sound}
-use Rattle.wf_commits.proofs.Runs.{founded, start_committed, submit_committed, step_committed}
-use Rattle.wf_bound.specs.declared.spent.Spent.{Spent}
-use Rattle.wf_bound.specs.Spent.{unspent, spent_after}
-use Rattle.wf_bound.specs.Bound.{StaysWithin}
-use Rattle.wf_bound.specs.Counted.{EachCounts}
-use Rattle.wf_bound.proofs.EachCounts.{start_counts, submit_counts}
-use Rattle.wf_bound.proofs.Runs.{idle_stays}
-use Rattle.wf_help.proofs.Runs.{start_helped, step_helped, submitted}
-use Rattle.wf_standing.proofs.Runs.{start_standing, step_standing, submit_standing}
-use Rattle.wf_standing.proofs.Legal.{step_answered}
+use Rattle.wf_table.proofs.CommitsRuns.{founded, start_committed, submit_committed, step_committed}
+use Rattle.wf_table.specs.declared.spent.Spent.{Spent}
+use Rattle.wf_table.specs.Spent.{unspent, spent_after}
+use Rattle.wf_table.specs.Bound.{StaysWithin}
+use Rattle.wf_table.specs.Counted.{EachCounts}
+use Rattle.wf_table.proofs.EachCounts.{start_counts, submit_counts}
+use Rattle.wf_table.proofs.BoundRuns.{idle_stays}
+use Rattle.wf_table.proofs.HelpRuns.{start_helped, step_helped, submitted}
+use Rattle.wf_table.proofs.StandingRuns.{start_standing, step_standing, submit_standing}
+use Rattle.wf_table.proofs.Legal.{step_answered}
 use Rattle.wf_object.specs.Kept.{IsKept}
 use Rattle.wf_object.specs.Packed.{packed}
 use Rattle.wf_object.proofs.Spends.{later, spends_stay, among_stay}

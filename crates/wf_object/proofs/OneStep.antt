@@ -12,8 +12,8 @@ use Rattle.wf_table.specs.declared.process.Sizes.{Sizes}
 use Rattle.wf_table.specs.Meaning.{Meaning}
 use Rattle.wf_table.specs.Table.{Process, cell_after, row}
 use Rattle.wf_table.specs.declared.process.Label.{Label}
-use Rattle.wf_bound.specs.declared.spent.Spent.{Spent}
-use Rattle.wf_bound.specs.Spent.{spent_after, has_more}
+use Rattle.wf_table.specs.declared.spent.Spent.{Spent}
+use Rattle.wf_table.specs.Spent.{spent_after, has_more}
 use Rattle.wf_object.specs.Shown.{spent_by}
 use Rattle.wf_table.specs.Object.{State, Records, Answer, GoesOn, noted, event_at, step_of, step_by, answer_by, answer_of, label_by, label_of, seen_by, script_by, script_of}
 

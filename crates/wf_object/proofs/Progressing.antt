@@ -21,9 +21,9 @@ use Rattle.wf_table.specs.Table.{Process, cell_after, load, row, store}
 use Rattle.wf_table.specs.Toggles.{StoresBit}
 use Rattle.wf_table.specs.Object.{Records, State, event_at, label_by, label_of, noted, step_by, step_of, stepped}
 use Rattle.wf_table.proofs.Stuck.{set_same}
-use Rattle.wf_bound.specs.declared.spent.Spent.{Spent}
-use Rattle.wf_bound.specs.Spent.{has_more, spent_after, unspent}
-use Rattle.wf_bound.specs.Counted.{count_by, spent_of}
+use Rattle.wf_table.specs.declared.spent.Spent.{Spent}
+use Rattle.wf_table.specs.Spent.{has_more, spent_after, unspent}
+use Rattle.wf_table.specs.Counted.{count_by, spent_of}
 use Rattle.wf_object.specs.InARow.{AreQuiet, after_steps, spent_after_steps}
 use Rattle.wf_object.specs.InBody.{body_behind, cell_behind, process_behind}
 use Rattle.wf_records.specs.Times.{counted_times}

@@ -8,8 +8,8 @@ use Rattle.wf_table.specs.declared.process.Sizes.{Sizes}
 use Rattle.wf_table.specs.Meaning.{Meaning}
 use Rattle.wf_table.specs.Table.{Process}
 use Rattle.wf_table.specs.Object.{State, Records, GoesOn, noted, event_at, answer_by, answer_of, label_by, seen_by}
-use Rattle.wf_bound.specs.declared.spent.Spent.{Spent}
-use Rattle.wf_bound.specs.Spent.{spent_after}
+use Rattle.wf_table.specs.declared.spent.Spent.{Spent}
+use Rattle.wf_table.specs.Spent.{spent_after}
 use Rattle.wf_object.specs.Quiet.{is_quiet, is_unmarked}
 
 pub unmarked_quiet : (l : Label) → is_unmarked l ≡ true → is_quiet l ≡ true

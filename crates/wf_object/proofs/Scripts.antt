@@ -7,7 +7,7 @@ use Rattle.wf_history.specs.declared.event.CallId.{CallId}
 use Rattle.wf_history.specs.History.{Event, Begin}
 use Rattle.wf_table.specs.Table.{Process}
 use Rattle.wf_table.specs.Object.{began}
-use Rattle.wf_calls.specs.CallsKept.{no_call}
+use Rattle.wf_records.specs.CallsKept.{no_call}
 
 module _ {Run : Type 0} where
   -- what is seen where the call of this place begins

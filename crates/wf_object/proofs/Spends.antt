@@ -17,13 +17,13 @@ use Rattle.wf_table.specs.Each.{Each}
 use Rattle.wf_table.specs.Ranges.{IsSized, IsInRange}
 use Rattle.wf_table.proofs.Counted.{one_turn}
 use Rattle.wf_table.proofs.Frame.{each_after}
-use Rattle.wf_bound.specs.declared.spent.Spent.{Spent}
-use Rattle.wf_bound.specs.Spent.{unspent, spent_after, has_more}
-use Rattle.wf_bound.specs.Bound.{StaysWithin}
-use Rattle.wf_bound.specs.Counted.{EachCounts, spent_of}
-use Rattle.wf_bound.proofs.EachCounts.{step_counts}
-use Rattle.wf_bound.proofs.Runs.{step_stays, within_bound}
-use Rattle.wf_bound.proofs.Sums.{bound_few}
+use Rattle.wf_table.specs.declared.spent.Spent.{Spent}
+use Rattle.wf_table.specs.Spent.{unspent, spent_after, has_more}
+use Rattle.wf_table.specs.Bound.{StaysWithin}
+use Rattle.wf_table.specs.Counted.{EachCounts, spent_of}
+use Rattle.wf_table.proofs.EachCounts.{step_counts}
+use Rattle.wf_table.proofs.BoundRuns.{step_stays, within_bound}
+use Rattle.wf_table.proofs.Sums.{bound_few}
 
 -- a step is one step in a body at most
 pub one_inside_more : (l : Label) (begins : Bool) (x : Spent) → (spent_after l begins x).inside ≤ x.inside + 1

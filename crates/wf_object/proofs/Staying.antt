@@ -12,8 +12,8 @@ use Rattle.wf_table.specs.Meaning.{Meaning}
 use Rattle.wf_table.specs.Law.{Effects, IsLawful}
 use Rattle.wf_table.specs.Table.{Process, own_block}
 use Rattle.wf_table.specs.Object.{State}
-use Rattle.wf_bound.specs.declared.spent.Spent.{Spent}
-use Rattle.wf_bound.specs.Counted.{spent_of}
+use Rattle.wf_table.specs.declared.spent.Spent.{Spent}
+use Rattle.wf_table.specs.Counted.{spent_of}
 use Rattle.wf_object.specs.InARow.{AreInBody, after_steps, spent_after_steps}
 use Rattle.wf_object.specs.InBody.{body_behind, cell_behind, process_behind}
 use Rattle.wf_records.specs.Times.{counted_times}

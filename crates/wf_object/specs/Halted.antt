@@ -3,7 +3,7 @@ use Rattle.std.specs.Prelude.{ℕ, Bool, true, ◌&&◌, not, Option, Some, None
 use Rattle.wf_table.specs.Labels.{at_next}
 use Rattle.wf_table.specs.Table.{Process}
 use Rattle.wf_table.specs.Object.{State}
-use Rattle.wf_bound.specs.Spent.{has_more}
+use Rattle.wf_table.specs.Spent.{has_more}
 
 module _ {Run : Type 0} where
   abbrev pub is_halted_by : Option (Process Run) → Bool

@@ -4,8 +4,8 @@ use Rattle.wf_table.specs.declared.process.Label.TheVariants.{Body}
 use Rattle.wf_table.specs.declared.process.Sizes.{Sizes}
 use Rattle.wf_table.specs.Meaning.{Meaning}
 use Rattle.wf_table.specs.Object.{State, label_of, step_of}
-use Rattle.wf_bound.specs.declared.spent.Spent.{Spent}
-use Rattle.wf_bound.specs.Counted.{spent_by_step}
+use Rattle.wf_table.specs.declared.spent.Spent.{Spent}
+use Rattle.wf_table.specs.Counted.{spent_by_step}
 use Rattle.wf_object.specs.Quiet.{is_quiet}
 use Rattle.wf_object.specs.View.{Object}
 

@@ -10,14 +10,14 @@ use Rattle.wf_table.specs.Table.{Process}
 use Rattle.wf_table.specs.Schedule.{steps_of}
 use Rattle.wf_table.specs.Each.{Each}
 use Rattle.wf_table.specs.Sound.{IsSound}
-use Rattle.wf_bound.specs.declared.spent.Spent.{Spent}
-use Rattle.wf_bound.specs.Spent.{unspent}
-use Rattle.wf_bound.specs.Counted.{EachCounts, spent_of}
-use Rattle.wf_bound.specs.Bound.{StaysWithin}
-use Rattle.wf_commits.specs.Commits.{IsCommitted}
-use Rattle.wf_help.specs.Helps.{IsHelped}
-use Rattle.wf_standing.specs.Stands.{IsStanding}
-use Rattle.wf_standing.specs.Answers.{AreAnswered}
+use Rattle.wf_table.specs.declared.spent.Spent.{Spent}
+use Rattle.wf_table.specs.Spent.{unspent}
+use Rattle.wf_table.specs.Counted.{EachCounts, spent_of}
+use Rattle.wf_table.specs.Bound.{StaysWithin}
+use Rattle.wf_table.specs.Commits.{IsCommitted}
+use Rattle.wf_table.specs.Helps.{IsHelped}
+use Rattle.wf_table.specs.Stands.{IsStanding}
+use Rattle.wf_table.specs.Answers.{AreAnswered}
 use Rattle.wf_object.specs.Packed.{packed}
 
 pub record IsKept {Run : Type 0} (m : Meaning Run) (lawful : List ℤ → Type 0) (fits : ObjectCall → Type 0) (ready : Run → Type 0) (z : Sizes) (opening : List ℤ) (s : State Run) (spent : List Spent) (form : Form) : Type 0 where

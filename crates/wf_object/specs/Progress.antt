@@ -7,9 +7,9 @@ use Rattle.wf_table.specs.declared.process.Sizes.{Sizes}
 use Rattle.wf_table.specs.Meaning.{Meaning}
 use Rattle.wf_table.specs.Object.{State}
 use Rattle.wf_table.specs.Table.{Process, cell_after, row}
-use Rattle.wf_bound.specs.declared.spent.Spent.{Spent}
-use Rattle.wf_bound.specs.Spent.{has_more, spent_after}
-use Rattle.wf_bound.specs.Counted.{spent_of}
+use Rattle.wf_table.specs.declared.spent.Spent.{Spent}
+use Rattle.wf_table.specs.Spent.{has_more, spent_after}
+use Rattle.wf_table.specs.Counted.{spent_of}
 use Rattle.wf_object.specs.Kept.{IsKept}
 use Rattle.wf_object.specs.Quiet.{is_unmarked}
 

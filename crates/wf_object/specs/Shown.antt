@@ -3,8 +3,8 @@ use Rattle.std.specs.Prelude.{List, Option, Some, None}
 use Rattle.ll_cell.specs.Cell.{Cell}
 use Rattle.wf_table.specs.Table.{Process}
 use Rattle.wf_table.specs.Object.{State, Records}
-use Rattle.wf_bound.specs.declared.spent.Spent.{Spent}
-use Rattle.wf_bound.specs.Spent.{has_more, spent_after}
+use Rattle.wf_table.specs.declared.spent.Spent.{Spent}
+use Rattle.wf_table.specs.Spent.{has_more, spent_after}
 
 module _ {Run : Type 0} where
   abbrev pub state_of : Cell → List (Process Run) → Records → State Run

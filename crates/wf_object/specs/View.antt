@@ -11,7 +11,7 @@ use Rattle.wf_table.specs.declared.process.Label.{Label}
 use Rattle.wf_table.specs.declared.process.Registers.{Registers}
 use Rattle.wf_table.specs.Object.{Records, State, Answer, GoesOn, Begins, Replies, Halts}
 use Rattle.wf_table.specs.Table.{Process}
-use Rattle.wf_bound.specs.declared.spent.Spent.{Spent}
+use Rattle.wf_table.specs.declared.spent.Spent.{Spent}
 
 -- an engine, the numbers of the object, the block that it began with, where it stands, and what each process has spent
 pub record Object (E : Type 0) (Run : Type 0) : Type 0 where

@@ -16,6 +16,5 @@ pub use engine::Engine;
 pub use fault::NewFault;
 pub use machine::Machine;
 pub use process::Process;
-pub use wf_bound::Spent;
 pub use wf_records::{Seen, StepOut};
-pub use wf_table::{EngineTurn, Label, Turns};
+pub use wf_table::{EngineTurn, Label, Spent, Turns};

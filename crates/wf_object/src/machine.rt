@@ -27,10 +27,9 @@ use ob_interface::call::Call;
 use ob_interface::{MOST_PROCESSES, NoMemory};
 use std::alloc::Global;
 use std::marker::Model;
-use wf_bound::Spent;
 use wf_history::{CallId, History};
 use wf_records::{Records, Seen, StepOut};
-use wf_table::{Label, Sizes, Turns};
+use wf_table::{Label, Sizes, Spent, Turns};
 
 /// An object of n processes over an engine: its cell, its processes, and what was seen.
 #[derive(Drop)]
@@ -63,13 +62,13 @@ impl<E: Engine> Machine<E> {
     ghost use Rattle.wf_object.specs.Halted.{is_halted};
     ghost use Rattle.wf_table.specs.Start.{IsStart, sizes_of};
     ghost use Rattle.wf_table.specs.Sound.{IsSound};
-    ghost use Rattle.wf_commits.specs.Commits.{IsCommitted};
-    ghost use Rattle.wf_help.specs.Helps.{IsHelped};
-    ghost use Rattle.wf_standing.specs.Stands.{IsStanding};
-    ghost use Rattle.wf_standing.specs.Answers.{AreAnswered};
-    ghost use Rattle.wf_bound.specs.Spent.{unspent};
-    ghost use Rattle.wf_bound.specs.Counted.{spent_of};
-    ghost use Rattle.wf_bound.specs.Bound.{sharp, bound};
+    ghost use Rattle.wf_table.specs.Commits.{IsCommitted};
+    ghost use Rattle.wf_table.specs.Helps.{IsHelped};
+    ghost use Rattle.wf_table.specs.Stands.{IsStanding};
+    ghost use Rattle.wf_table.specs.Answers.{AreAnswered};
+    ghost use Rattle.wf_table.specs.Spent.{unspent};
+    ghost use Rattle.wf_table.specs.Counted.{spent_of};
+    ghost use Rattle.wf_table.specs.Bound.{sharp, bound};
     ghost use Rattle.wf_history.specs.declared.event.CallId.{CallId};
     ghost use Rattle.wf_history.specs.History.{End, Before};
     ghost use Rattle.wf_history.specs.Legal.{NoRepeats, IsLegal};

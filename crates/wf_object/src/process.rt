@@ -3,7 +3,7 @@
 use ob_interface::NoMemory;
 use ob_interface::call::Call;
 use std::marker::Model;
-use wf_calls::CallList;
+use wf_records::CallList;
 use wf_table::{Label, Registers};
 
 /// What a process keeps for itself.
@@ -33,7 +33,7 @@ impl<R> Model for Process<R> {
 }
 
 impl<R> Process<R> {
-    ghost use Rattle.wf_bound.specs.Spent.{has_more};
+    ghost use Rattle.wf_table.specs.Spent.{has_more};
     ghost use Rattle.std.specs.Prelude.{◌≡◌, OnOk, OnErr, IfOk, length, ◌++◌, ◌∷◌, []};
     ghost use Rattle.ob_interface.specs.View.{call_of};
 

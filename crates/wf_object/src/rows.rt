@@ -15,8 +15,7 @@ use crate::steps::{
     take_reply, try_round, undo,
 };
 use ll_cell::Shared;
-use wf_bound::Spent;
-use wf_table::{Label, Sizes};
+use wf_table::{Label, Sizes, Spent};
 
 /// Steps of the process, at most so many, and how many they are: where it stands at POST, READ or TAKE those at these labels, up to the
 /// first at another one; else those up to the first at one of these labels, the first of which more than its turn is noted, or a LOAD

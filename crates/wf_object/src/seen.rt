@@ -9,7 +9,7 @@ ghost use Rattle.wf_table.specs.Table.{own_block, toggle_in, next, give};
 ghost use Rattle.wf_table.specs.Ranges.{IsSized, IsShaped, IsInRange};
 ghost use Rattle.wf_table.specs.Scripts.{CallsFit};
 ghost use Rattle.wf_table.specs.Object.{ended, began, applied, applied_ids, begun_of, history_after, noted, answer_by, answer_of, label_by, seen_of, step_of};
-ghost use Rattle.wf_bound.specs.Spent.{has_more, spent_after};
+ghost use Rattle.wf_table.specs.Spent.{has_more, spent_after};
 ghost use Rattle.wf_object.specs.Shown.{spent_by, state_of};
 ghost use Rattle.wf_object.specs.View.{answer_in};
 ghost use Rattle.wf_object.specs.Packed.{packed};
@@ -24,10 +24,9 @@ use ll_cell::Shared;
 use ob_interface::NoMemory;
 use smallvec::SmallVec;
 use std::alloc::Global;
-use wf_bound::Spent;
 use wf_history::{CallId, KeptCall, KeptReply};
 use wf_records::{Records, StepOut};
-use wf_table::{Label, Sizes};
+use wf_table::{Label, Sizes, Spent};
 
 /// Whether a step at the label shows nothing.
 #[inline(always)]

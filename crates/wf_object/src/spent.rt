@@ -1,13 +1,12 @@
 //! What a process spends.
 
 ghost use Rattle.std.specs.Prelude.{◌≡◌, ◌+◌, ◌*◌, ◌<◌, ◌^◌};
-ghost use Rattle.wf_bound.specs.Spent.{spent_after};
-ghost use Rattle.wf_bound.specs.Bound.{bound};
+ghost use Rattle.wf_table.specs.Spent.{spent_after};
+ghost use Rattle.wf_table.specs.Bound.{bound};
 ghost use Rattle.wf_object.specs.Progress.{outside_more};
 ghost use Rattle.wf_table.specs.Ranges.{IsSized};
 
-use wf_bound::Spent;
-use wf_table::{Label, Sizes};
+use wf_table::{Label, Sizes, Spent};
 
 /// A step at the label counts; at NEXT it begins a call or is halted.
 #[inline(always)]

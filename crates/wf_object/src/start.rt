@@ -14,7 +14,7 @@ use crate::process::Process;
 use ll_cell::Shared;
 use ob_interface::NoMemory;
 use std::alloc::Global;
-use wf_calls::CallList;
+use wf_records::CallList;
 use wf_table::{Label, Registers, Sizes};
 
 /// The cell with these words in its root: they enter by process 0's own block and one exchange.

@@ -2,16 +2,23 @@ pub mod Arriving
 pub mod Beginnings
 pub mod Bounds
 pub mod Completeness
+pub mod Counted
 pub mod Deciding
 pub mod Ending
 pub mod Exchange
 pub mod Fronts
 pub mod Keeping
+mod Legality
 pub mod Limits
 pub mod Lists
+pub mod Nexts
 pub mod Noting
+pub mod OpenCalls
 pub mod Places
+mod Placing
 pub mod Replacing
+mod Replaying
+mod Rounds
 pub mod Rowing
 pub mod Searching
 pub mod Soundness

@@ -1,4 +1,7 @@
+pub mod Beginnings
 pub mod Fronts
+pub mod Listed
+pub mod Needed
 pub mod Rows
 pub mod Rules
 pub mod Search

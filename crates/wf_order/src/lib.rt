@@ -1,17 +1,22 @@
-//! A search for a legal order of a history.
+//! A search for a legal order of a history, depth first over configurations: how many calls of each process are taken, and the state that
+//! they lead to. None is gone over twice. A call that leaves the state as it is comes first and alone, and of equal calls only one is tried.
 //!
-//! It goes over configurations, depth first and over none twice: how many calls of each process are taken, and the state
-//! that they lead to. Two rules leave most steps out: a call that leaves the state as it is comes first and alone, and of
-//! equal calls only one is tried, the one that ends first, or of open ones that of the smallest process.
+//! An order that is found is then cut down to the open calls that it needs. And copies are made of the beginnings of a history.
 //!
-//! One may rely on the clauses of `find_order`, which are in the words of `specs/Verdict.antt`. The order in which steps are
-//! tried may change without asking.
+//! One may rely on the clauses of `find_order` (`specs/Verdict.antt`), `needed_order` (`specs/Needed.antt`), `push_seen`, `copied`, `open_calls`
+//! and `process_count`. In which order steps are tried, and which open calls are left out where not all can be, may change without asking.
 #![tactic(auto)]
 
 mod behind;
+pub mod copying;
 pub mod find;
 mod front;
+mod listed;
+pub mod needed;
 pub mod object;
+pub mod opened;
+pub mod processes;
+mod replay;
 mod replies;
 pub mod rows;
 mod search;
@@ -20,5 +25,9 @@ mod sooner;
 mod step;
 mod turn;
 
+pub use copying::{copied, push_seen};
 pub use find::{Verdict, find_order};
+pub use needed::needed_order;
 pub use object::Object;
+pub use opened::open_calls;
+pub use processes::process_count;

@@ -7,7 +7,7 @@ use Rattle.std.specs.List.{slice_get}
 use Rattle.wf_history.specs.declared.event.CallId.{CallId}
 use Rattle.wf_outcomes.specs.Merges.{Configuration, IsStep, Leads, none, more, full, IsReached, CanComplete, IsPossible, IsInWhole}
 use Rattle.wf_outcomes.specs.Whole.{Completes, IsTotal}
-use Rattle.wf_outcomes.proofs.Lists.{same_configuration}
+use Rattle.wf_outcomes.proofs.OutcomesLists.{same_configuration}
 use Rattle.wf_outcomes.proofs.Growing.{leads_push}
 use Rattle.wf_outcomes.proofs.Stepping.{next_of}
 

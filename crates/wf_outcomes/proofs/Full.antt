@@ -7,7 +7,7 @@ use Rattle.wf_history.proofs.Positions.{place_push, place_left, place_here, one_
 use Rattle.wf_outcomes.specs.Merges.{Configuration, full, IsReached}
 use Rattle.wf_outcomes.specs.Explored.{Kept, IsExplored}
 use Rattle.wf_outcomes.specs.Outcomes.{AreFinals}
-use Rattle.wf_outcomes.proofs.Lists.{same_configuration}
+use Rattle.wf_outcomes.proofs.OutcomesLists.{same_configuration}
 
 -- these are the places below a bound at which the counts are these
 pub record AreFull {State : Type 0} (found : List (Kept State)) (counts places : List ℕ) (bound : ℕ) : Type 0 where

@@ -8,7 +8,7 @@ use Rattle.wf_history.specs.declared.event.CallId.{CallId}
 use Rattle.wf_history.proofs.Positions.{place_push, place_left, place_here, one_item}
 use Rattle.wf_outcomes.specs.Merges.{Configuration, total, IsStep, Leads, none, more, start, IsReached}
 use Rattle.wf_outcomes.specs.Explored.{Kept, IsFound, HasNoStep, IsOnlyStep, IsOrigin, IsExploring, IsExplored, IsArrival, HasMore}
-use Rattle.wf_outcomes.proofs.Lists.{map_place, sum_set}
+use Rattle.wf_outcomes.proofs.OutcomesLists.{map_place, sum_set}
 
 module _ {State Call Reply : Type 0} (Effect : Call → State → State → Reply → Type 0) (scripts : List (List Call)) where
   pub leads_push : {c d e : Configuration State} {id : CallId} {ids : List CallId} (reply : Reply) → Leads Effect scripts c ids d → IsStep Effect scripts d id reply e → Leads Effect scripts c (ids ++ id ∷ []) e

@@ -13,7 +13,7 @@ use Rattle.wf_history.proofs.Positions.{contains_at}
 use Rattle.wf_outcomes.specs.declared.seen.Found.{Found}
 use Rattle.wf_outcomes.specs.Explored.{Kept, kept_in, IsArrival, IsFound, IsWorded}
 use Rattle.wf_outcomes.specs.Merges.{Configuration}
-use Rattle.wf_outcomes.proofs.Lists.{same_configuration}
+use Rattle.wf_outcomes.proofs.OutcomesLists.{same_configuration}
 
 true≢false : true ≡ false → ⊥
 true≢false e = cc

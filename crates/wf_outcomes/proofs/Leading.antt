@@ -12,7 +12,7 @@ use Rattle.wf_outcomes.specs.Merges.{Configuration, IsStep, Leads, none, more}
 use Rattle.wf_outcomes.specs.Outcomes.{IsAtEnd, LeadsOn}
 use Rattle.wf_outcomes.proofs.Growing.{size_step}
 use Rattle.wf_outcomes.proofs.Keeping.{found_eq, same_here, some_at}
-use Rattle.wf_outcomes.proofs.Lists.{place_map}
+use Rattle.wf_outcomes.proofs.OutcomesLists.{place_map}
 
 module _ {State Call Reply : Type 0} (Effect : Call → State → State → Reply → Type 0) (scripts : List (List Call)) where
   size_leads : {c e : Configuration State} {ids : List CallId} → Leads Effect scripts c ids e → length e.counts ≡ length c.counts

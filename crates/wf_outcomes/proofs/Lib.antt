@@ -1,11 +1,15 @@
 pub mod Backward
+pub mod Calling
 pub mod Completing
 pub mod Full
 pub mod Growing
 pub mod Keeping
-pub mod Lists
 pub mod Leading
 pub mod Making
+pub mod Matching
+pub mod Meeting
+pub mod OutcomesLists
 pub mod Replying
 pub mod Stepping
-pub mod Meeting
+pub mod Telling
+pub mod ToldLists

@@ -9,7 +9,7 @@ use Rattle.wf_outcomes.specs.declared.seen.Found.{Found}
 use Rattle.wf_outcomes.specs.Merges.{Configuration}
 use Rattle.wf_outcomes.specs.Explored.{Kept, kept_in, IsWorded}
 use Rattle.wf_outcomes.specs.Telling.{AreMarks, AreMet, AreTelling, IsMarked, IsMet, IsPlaced}
-use Rattle.wf_outcomes.proofs.Lists.{map_place, place_map}
+use Rattle.wf_outcomes.proofs.OutcomesLists.{map_place, place_map}
 use Rattle.wf_outcomes.proofs.Making.{set_other, set_same}
 
 -- as many calls of the process are made at both, on the same state

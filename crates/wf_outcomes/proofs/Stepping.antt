@@ -7,7 +7,7 @@ use Rattle.wf_history.proofs.Positions.{same_call}
 use Rattle.wf_outcomes.specs.Merges.{Configuration, IsStep}
 use Rattle.wf_outcomes.specs.Explored.{HasNoStep, IsOnlyStep, IsOnlyStepWith}
 use Rattle.wf_outcomes.specs.Outcomes.{IsOnlyReply}
-use Rattle.wf_outcomes.proofs.Lists.{same_configuration}
+use Rattle.wf_outcomes.proofs.OutcomesLists.{same_configuration}
 
 -- what was read as the next call of a process
 pub next_is : {C : Type 0} (o : Option C) (scripts : List (List C)) (xs ys : List ℕ) (p : ℕ) → xs ≡ ys → p < length ys → (p < length xs → o ≡ slice_get (get_or scripts p []) (get_or xs p 0)) → slice_get (get_or scripts p []) (get_or ys p 0) ≡ o

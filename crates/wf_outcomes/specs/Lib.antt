@@ -4,4 +4,6 @@ pub mod Merges
 pub mod Outcomes
 pub mod Possible
 pub mod Telling
+pub mod Told
+pub mod View
 pub mod Whole

@@ -3,9 +3,9 @@ use Rattle.std.proofs.Common.{◌≡◌, ℕ, ◌+◌, ◌-◌, zero, suc, ◌<�
 use Rattle.std.proofs.lemmas.List.{replicate-append-replicate}
 use Rattle.std.proofs.lemmas.Bool.{cases_eq, cases_lt}
 use Rattle.std.specs.Prelude.{Option, Some, None, slice_get, ◌&&◌, not}
-use Rattle.ob_schedule.specs.declared.item.Item.{Item}
-use Rattle.ob_schedule.specs.declared.item.Item.TheVariants as Items
-use Rattle.ob_schedule.specs.Schedule.{process_of}
+use Rattle.ob_text_words.specs.declared.item.Item.{Item}
+use Rattle.ob_text_words.specs.declared.item.Item.TheVariants as Items
+use Rattle.ob_text_words.specs.Schedule.{process_of}
 use Rattle.wf_object.specs.Halted.{is_halted, is_halted_by}
 use Rattle.wf_object.specs.View.{Object}
 use Rattle.wf_play.specs.Played.{IsSameObject}
@@ -19,8 +19,8 @@ use Rattle.wf_table.specs.declared.process.Label.{Label}
 use Rattle.wf_table.specs.declared.process.Label.TheVariants.{Next, Body, Commit, Give}
 use Rattle.wf_table.specs.declared.process.Sizes.{Sizes}
 use Rattle.wf_table.specs.Meaning.{Meaning}
-use Rattle.wf_bound.specs.declared.spent.Spent.{Spent}
-use Rattle.wf_bound.specs.Spent.{has_more}
+use Rattle.wf_table.specs.declared.spent.Spent.{Spent}
+use Rattle.wf_table.specs.Spent.{has_more}
 use Rattle.wf_table.specs.Labels.{at_next}
 use Rattle.wf_table.specs.Table.{Process}
 use Rattle.wf_table.specs.Object.{Answer, GoesOn, Begins, Replies, Halts, State, answer_by, answer_of, event_at, label_by, label_of, seen_by, step_of}

@@ -3,8 +3,8 @@ use Rattle.std.proofs.Common.{◌≡◌, ℕ, zero, suc, ◌-◌, ◌≤◌, Lis
 use Rattle.std.specs.Prelude.{Some, slice_get}
 use Rattle.std.proofs.lemmas.Bool.{cases_order}
 use Rattle.std.proofs.lemmas.Option.{same_Some}
-use Rattle.ob_schedule.specs.declared.item.Item.{Item}
-use Rattle.ob_schedule.specs.Schedule.{process_of}
+use Rattle.ob_text_words.specs.declared.item.Item.{Item}
+use Rattle.ob_text_words.specs.Schedule.{process_of}
 use Rattle.wf_object.specs.InARow.{after_steps}
 use Rattle.wf_play.specs.ItemSteps.{AreItemSteps, IsBeyond, IsFirstBeyond, StandsFor, more, none}
 use Rattle.wf_table.specs.declared.process.Sizes.{Sizes}

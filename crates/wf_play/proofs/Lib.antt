@@ -1,6 +1,7 @@
 pub mod Alike
-pub mod Starts
-mod Items
 mod Ends
-mod Plays
+mod Items
+pub mod Leading
 mod Makings
+mod Plays
+pub mod Starts

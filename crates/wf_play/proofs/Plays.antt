@@ -4,8 +4,8 @@ use Rattle.std.specs.Prelude.{ℤ, Option, Some, None, slice_get}
 use Rattle.std.proofs.lemmas.Bool.{cases_lt}
 use Rattle.std.proofs.lemmas.List.Elements.{All-head, All-tail}
 use Rattle.ob_interface.specs.Call.{ObjectCall}
-use Rattle.ob_schedule.specs.declared.item.Item.{Item}
-use Rattle.ob_schedule.specs.Schedule.{process_of}
+use Rattle.ob_text_words.specs.declared.item.Item.{Item}
+use Rattle.ob_text_words.specs.Schedule.{process_of}
 use Rattle.ob_text_words.specs.declared.script_call.ScriptCall.{ScriptCall}
 use Rattle.ob_text_words.specs.ScriptCalls.{object_call, script_call_of}
 use Rattle.wf_history.proofs.Positions.{take_next}

@@ -2,9 +2,9 @@
 use Rattle.std.proofs.Common.{◌≡◌, ℕ, zero, suc, ◌-◌, List, take, refl, sym, ap, ◌∙◌, subst, inl, inr}
 use Rattle.std.specs.Prelude.{ℤ}
 use Rattle.ob_interface.specs.Call.{ObjectCall}
-use Rattle.ob_schedule.specs.declared.item.Item.{Item}
-use Rattle.ob_schedule.specs.declared.item.Item.TheVariants as Items
-use Rattle.ob_schedule.specs.Schedule.{process_of}
+use Rattle.ob_text_words.specs.declared.item.Item.{Item}
+use Rattle.ob_text_words.specs.declared.item.Item.TheVariants as Items
+use Rattle.ob_text_words.specs.Schedule.{process_of}
 use Rattle.wf_play.proofs.Alike.{LooksAlike, Back, alike_back, lock_back, other_start, other_starts, run_alike, same_answer, same_cell, same_halted, same_label, same_records, starts_alike, step_alike}
 use Rattle.wf_play.proofs.Items.{items_run, none_beyond, one_run, run-append}
 use Rattle.wf_play.specs.LockStep.{AreInLockStep}

@@ -1,8 +1,8 @@
 -- What the items of a schedule stand for, at the states where they begin: steps of one process.
 use Rattle.std.specs.Prelude.{◌≡◌, ℕ, zero, suc, ◌-◌, ◌<◌, ◌≤◌, ◌⊎◌, Bool, true, false, List, [], ◌∷◌, ◌++◌, replicate, slice_get, Some, take}
-use Rattle.ob_schedule.specs.declared.item.Item.{Item}
-use Rattle.ob_schedule.specs.declared.item.Item.TheVariants as Items
-use Rattle.ob_schedule.specs.Schedule.{process_of}
+use Rattle.ob_text_words.specs.declared.item.Item.{Item}
+use Rattle.ob_text_words.specs.declared.item.Item.TheVariants as Items
+use Rattle.ob_text_words.specs.Schedule.{process_of}
 use Rattle.wf_object.specs.Halted.{is_halted}
 use Rattle.wf_object.specs.InARow.{after_steps}
 use Rattle.wf_table.specs.declared.process.Sizes.{Sizes}

@@ -1,7 +1,7 @@
 -- What holds of items and of runs by them, over each meaning of an engine.
 use Rattle.std.specs.Prelude.{◌≡◌, ℕ, ℤ, List}
 use Rattle.ob_interface.specs.Call.{ObjectCall}
-use Rattle.ob_schedule.specs.declared.item.Item.{Item}
+use Rattle.ob_text_words.specs.declared.item.Item.{Item}
 use Rattle.wf_play.specs.ItemSteps.{AreItemSteps, StandsFor}
 use Rattle.wf_play.specs.Played.{IsPlayFault, IsPlayed}
 use Rattle.wf_play.specs.declared.playing.PlayFault.TheVariants as Faults

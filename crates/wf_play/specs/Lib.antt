@@ -1,5 +1,6 @@
+pub mod Ended
 pub mod ItemSteps
-pub mod Played
-pub mod Makers
-pub mod LockStep
 pub mod Laws
+pub mod LockStep
+pub mod Makers
+pub mod Played

@@ -2,7 +2,7 @@
 use Rattle.std.specs.Prelude.{◌≡◌, ℕ, ◌<◌, ◌⊎◌, ℤ, List, map}
 use Rattle.ob_interface.specs.Call.{ObjectCall}
 use Rattle.ob_interface.specs.Processes.{most_processes}
-use Rattle.ob_schedule.specs.declared.item.Item.{Item}
+use Rattle.ob_text_words.specs.declared.item.Item.{Item}
 use Rattle.ob_text_words.specs.ScriptCalls.{ScriptCall}
 use Rattle.ob_text_words.specs.declared.script_call.ScriptCall as Read
 use Rattle.ob_text_words.specs.ScriptCalls.{object_call, script_call_of}

@@ -1,8 +1,8 @@
 //! One item of a schedule.
 
 ghost use Rattle.std.specs.Prelude.{◌≡◌, ◌≢◌, ◌<◌, ◌≤◌, [], ◌∷◌, ◌++◌, ◌⊎◌, ◌↔◌, true, replicate, IsTrue, IfOk, OnOk};
-ghost use Rattle.ob_schedule.specs.Schedule.{process_of};
-ghost use Rattle.ob_schedule.specs.declared.item.Item.TheVariants as Items;
+ghost use Rattle.ob_text_words.specs.Schedule.{process_of};
+ghost use Rattle.ob_text_words.specs.declared.item.Item.TheVariants as Items;
 ghost use Rattle.wf_object.specs.Halted.{is_halted};
 ghost use Rattle.wf_object.specs.InARow.{AreInBody, after_steps, object_after, stepped};
 ghost use Rattle.wf_play.specs.ItemSteps.{IsItemPlayed};
@@ -12,7 +12,7 @@ ghost use Rattle.wf_table.specs.Object.{label_of};
 ghost use Rattle.wf_table.specs.Schedule.{steps_of};
 
 use ob_interface::NoMemory;
-use ob_schedule::Item;
+use ob_text_words::Item;
 use wf_object::{Engine, Label, Machine, Seen};
 
 /// Plays an item; false where it stands for more steps than the limit.

@@ -2,7 +2,7 @@
 
 ghost use Rattle.std.specs.Prelude.{◌≡◌, ◌<◌, ◌⊎◌, ◌↔◌, Err, All, IfOk, IfErr, OnOk};
 ghost use Rattle.ob_interface.specs.View.{call_of};
-ghost use Rattle.ob_schedule.specs.Schedule.{process_of};
+ghost use Rattle.ob_text_words.specs.Schedule.{process_of};
 ghost use Rattle.ob_text_words.specs.ScriptCalls.{object_call, script_call_of};
 ghost use Rattle.wf_play.specs.Played.{IsItemFault, IsPlayedObject, IsPlayFault, IsSameObject, scripts_in};
 ghost use Rattle.wf_play.specs.ItemSteps.{HasPlayed};
@@ -13,7 +13,7 @@ ghost use Rattle.wf_table.specs.Start.{sizes_of};
 use crate::item::play_item;
 use ob_interface::NoMemory;
 use ob_interface::call::Call;
-use ob_schedule::Item;
+use ob_text_words::Item;
 use ob_text_words::script_call::ScriptCall;
 use smallvec::SmallVec;
 use std::alloc::{AllocError, Global};

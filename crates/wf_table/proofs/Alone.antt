@@ -8,8 +8,8 @@ use Rattle.wf_history.specs.Legal.{OneAtATime, none, more}
 use Rattle.wf_table.specs.declared.engine_turn.EngineTurn.TheVariants.{Returned, Trapped}
 use Rattle.wf_table.specs.Meaning.{Turned, Meaning, is_over, body, kept, kept_trap}
 use Rattle.wf_table.specs.Law.{Effects, IsLawful}
-use Rattle.wf_table.specs.Alone.{EndsAlone, returns, traps}
-use Rattle.wf_table.proofs.Bodies.{over_same}
+use Rattle.wf_table.specs.TableAlone.{EndsAlone, returns, traps}
+use Rattle.wf_table.proofs.TableBodies.{over_same}
 
 module _ {Run : Type 0} (m : Meaning Run) where
   -- two ends of one call

@@ -13,7 +13,7 @@ use Rattle.wf_table.specs.Object.{State, step_of, step_by}
 use Rattle.wf_table.specs.Start.{sizes_of}
 use Rattle.wf_table.specs.Runs.{Act, Steps, ActsFit, act_of, run, submissions, turns, performed, IsRun}
 use Rattle.wf_table.proofs.Counted.{one_turn}
-use Rattle.wf_table.proofs.Runs.{run_sound}
+use Rattle.wf_table.proofs.TableRuns.{run_sound}
 
 turns-append : (ps qs : List ℕ) → turns (ps ++ qs) ≡ turns ps ++ turns qs
 turns-append [] qs = refl

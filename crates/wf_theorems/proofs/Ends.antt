@@ -21,18 +21,18 @@ use Rattle.wf_table.specs.Each.{Each}
 use Rattle.wf_table.specs.Start.{sizes_of}
 use Rattle.wf_table.specs.Toggles.{flips}
 use Rattle.wf_table.specs.Sound.{IsSound}
-use Rattle.wf_table.proofs.Runs.{run_sound}
+use Rattle.wf_table.proofs.TableRuns.{run_sound}
 use Rattle.wf_table.specs.Labels.{at_body}
-use Rattle.wf_bound.specs.Counted.{Counted, EachCounts, uncounted, counts_after, counts_of, counted_from, counted_act}
-use Rattle.wf_bound.specs.Ends.{AllEndWithin, EndsWithin, IsCallOf}
-use Rattle.wf_bound.specs.Limit.{StaysBelow}
-use Rattle.wf_bound.proofs.BodyEnds.{body_goes_on}
-use Rattle.wf_bound.proofs.EachCounts.{act_counts}
-use Rattle.wf_help.specs.Alone.{Alone}
-use Rattle.wf_help.specs.Helps.{calls_of, served, Packs, IsHelped}
-use Rattle.wf_help.proofs.Alones.{alone_lawful}
-use Rattle.wf_help.proofs.Effects.{alone_effect, begun_fits}
-use Rattle.wf_help.proofs.Runs.{run_helped}
+use Rattle.wf_table.specs.Counted.{Counted, EachCounts, uncounted, counts_after, counts_of, counted_from, counted_act}
+use Rattle.wf_table.specs.Ends.{AllEndWithin, EndsWithin, IsCallOf}
+use Rattle.wf_table.specs.Limit.{StaysBelow}
+use Rattle.wf_table.proofs.BodyEnds.{body_goes_on}
+use Rattle.wf_table.proofs.EachCounts.{act_counts}
+use Rattle.wf_table.specs.HelpAlone.{Alone}
+use Rattle.wf_table.specs.Helps.{calls_of, served, Packs, IsHelped}
+use Rattle.wf_table.proofs.Alones.{alone_lawful}
+use Rattle.wf_table.proofs.Effects.{alone_effect, begun_fits}
+use Rattle.wf_table.proofs.HelpRuns.{run_helped}
 use Rattle.wf_theorems.proofs.Present.{Ran, AllRan, served_body, act_ran}
 use Rattle.wf_theorems.proofs.Scripts.{begun_of_script}
 

@@ -1,9 +1,9 @@
+pub mod Ends
+mod FirstOnes
 mod Halted
 mod Present
-mod Scripts
-pub mod Ends
 mod PresentBodies
+mod Scripts
 mod Submitted
-mod FirstOnes
 mod Touches
 mod TouchesBody

@@ -21,13 +21,13 @@ use Rattle.wf_table.specs.Each.{Each}
 use Rattle.wf_table.specs.Sound.{IsSound}
 use Rattle.wf_table.proofs.Frame.{each_after}
 use Rattle.wf_table.specs.Toggles.{flips}
-use Rattle.wf_commits.proofs.Steps.{same_own}
-use Rattle.wf_bound.specs.Spent.{has_more, one_more, body_steps_after}
+use Rattle.wf_table.proofs.CommitsSteps.{same_own}
+use Rattle.wf_table.specs.Spent.{has_more, one_more, body_steps_after}
 use Rattle.wf_table.specs.Labels.{at_body}
-use Rattle.wf_bound.specs.Counted.{Counts, uncounted, counts_after, counts_of, count_by, count_act}
-use Rattle.wf_help.specs.Helps.{Witness, Packs, IsHelped}
-use Rattle.wf_help.proofs.Blocks.{take_refilled}
-use Rattle.wf_help.proofs.Bodies.{steps_more, not_stuck}
+use Rattle.wf_table.specs.Counted.{Counts, uncounted, counts_after, counts_of, count_by, count_act}
+use Rattle.wf_table.specs.Helps.{Witness, Packs, IsHelped}
+use Rattle.wf_table.proofs.Blocks.{take_refilled}
+use Rattle.wf_table.proofs.HelpBodies.{steps_more, not_stuck}
 
 -- a step of another process leaves the own block
 other_own : (c : Cell) (p k : ℕ) (change : Change) → p < length c.own → k < length c.own → k ≢ p → IsNumbered c.root c.own → own_block (cell_after c p change) k ≡ own_block c k

@@ -19,13 +19,13 @@ use Rattle.wf_table.specs.Each.{Each}
 use Rattle.wf_table.specs.Start.{sizes_of}
 use Rattle.wf_table.specs.Toggles.{flips}
 use Rattle.wf_table.specs.Sound.{IsSound}
-use Rattle.wf_table.proofs.Runs.{run_sound}
-use Rattle.wf_bound.specs.Counted.{Counted, EachCounts, uncounted, counts_after, counts_of, counted_from, counted_act, counted_run}
-use Rattle.wf_bound.proofs.EachCounts.{act_counts}
-use Rattle.wf_bound.proofs.Runs.{same_run}
-use Rattle.wf_help.specs.Helps.{Packs, IsHelped}
-use Rattle.wf_help.proofs.Bodies.{not_stuck}
-use Rattle.wf_help.proofs.Runs.{run_helped}
+use Rattle.wf_table.proofs.TableRuns.{run_sound}
+use Rattle.wf_table.specs.Counted.{Counted, EachCounts, uncounted, counts_after, counts_of, counted_from, counted_act, counted_run}
+use Rattle.wf_table.proofs.EachCounts.{act_counts}
+use Rattle.wf_table.proofs.BoundRuns.{same_run}
+use Rattle.wf_table.specs.Helps.{Packs, IsHelped}
+use Rattle.wf_table.proofs.HelpBodies.{not_stuck}
+use Rattle.wf_table.proofs.HelpRuns.{run_helped}
 use Rattle.wf_theorems.specs.PresentBodies.{IsNeverStuck}
 use Rattle.wf_theorems.proofs.Present.{Ran, AllRan, next_step, served_body, act_ran}
 

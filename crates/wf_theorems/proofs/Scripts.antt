@@ -17,10 +17,10 @@ use Rattle.wf_table.specs.Runs.{Act, Steps, Submits, act_of, run}
 use Rattle.wf_table.specs.Below.{EventBelow}
 use Rattle.wf_table.specs.Sound.{IsSound}
 use Rattle.wf_table.proofs.Moves.{same_calls}
-use Rattle.wf_commits.proofs.Steps.{member}
-use Rattle.wf_bound.specs.Ends.{IsCallOf}
-use Rattle.wf_bound.proofs.Places.{put_at, still_at}
-use Rattle.wf_standing.proofs.Unique.{call_is, of_script}
+use Rattle.wf_table.proofs.CommitsSteps.{member}
+use Rattle.wf_table.specs.Ends.{IsCallOf}
+use Rattle.wf_table.proofs.BoundPlaces.{put_at, still_at}
+use Rattle.wf_table.proofs.Unique.{call_is, of_script}
 
 -- what stands in the first list stands in the second one
 abbrev Begins : List ObjectCall → List ObjectCall → Type 0

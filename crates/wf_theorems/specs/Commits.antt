@@ -12,10 +12,10 @@ use Rattle.wf_table.specs.Object.{State, step_of, label_of}
 use Rattle.wf_table.specs.Labels.{at_next}
 use Rattle.wf_table.specs.Sound.{IsSound}
 use Rattle.wf_table.specs.Start.{sizes_of}
-use Rattle.wf_commits.specs.Helping.{IsNewer}
-use Rattle.wf_commits.specs.Fetched.{ServesCall}
-use Rattle.wf_commits.specs.Commits.{IsCommitted, announced_call, flips_at, own_toggles, standing}
-use Rattle.wf_commits.specs.Order.{exchanges_in}
+use Rattle.wf_table.specs.Helping.{IsNewer}
+use Rattle.wf_table.specs.Fetched.{ServesCall}
+use Rattle.wf_table.specs.Commits.{IsCommitted, announced_call, flips_at, own_toggles, standing}
+use Rattle.wf_table.specs.Order.{exchanges_in}
 use Rattle.wf_table.specs.Meaning.{Meaning}
 use Rattle.ob_interface.specs.Call.{ObjectCall}
 

@@ -8,11 +8,11 @@ use Rattle.wf_table.specs.Runs.{Act, IsRun}
 use Rattle.wf_table.specs.Object.{State}
 use Rattle.wf_table.specs.Sound.{IsSound}
 use Rattle.wf_table.specs.Start.{sizes_of}
-use Rattle.wf_commits.specs.Order.{applied_count}
-use Rattle.wf_commits.specs.Commits.{IsCommitted}
-use Rattle.wf_help.specs.Contents.{RootHolds}
-use Rattle.wf_help.specs.Helps.{IsHelped}
-use Rattle.wf_help.specs.Served.{ServesOpen, MakesAnother, OrderLeads}
+use Rattle.wf_table.specs.Order.{applied_count}
+use Rattle.wf_table.specs.Commits.{IsCommitted}
+use Rattle.wf_table.specs.Contents.{RootHolds}
+use Rattle.wf_table.specs.Helps.{IsHelped}
+use Rattle.wf_table.specs.Served.{ServesOpen, MakesAnother, OrderLeads}
 use Rattle.wf_table.specs.Meaning.{Meaning}
 use Rattle.wf_table.specs.Law.{Effects}
 use Rattle.ob_interface.specs.Call.{ObjectCall}

@@ -1,8 +1,9 @@
-pub mod FirstCalls
-pub mod PresentBodies
 pub mod Bodies
+pub mod Coded
 pub mod Commits
+pub mod FirstCalls
 pub mod Helping
-pub mod Replies
 pub mod Limits
+pub mod PresentBodies
+pub mod Replies
 pub mod Touches

@@ -13,14 +13,14 @@ use Rattle.wf_table.specs.Ranges.{IsSized, IsInRange}
 use Rattle.wf_table.specs.Runs.{Act, IsRun, run}
 use Rattle.wf_table.specs.Start.{sizes_of}
 use Rattle.wf_table.specs.Table.{Process, row}
-use Rattle.wf_bound.specs.Counted.{counted_from, counted_run, counts_of}
-use Rattle.wf_bound.specs.Ends.{AllEndWithin, IsCallOf, IsReachedWithout}
-use Rattle.wf_bound.specs.Left.{left_to}
-use Rattle.wf_bound.specs.Limit.{AllWithinLimit, StaysBelow, AllSumBodies, IsWithinLimit}
+use Rattle.wf_table.specs.Counted.{counted_from, counted_run, counts_of}
+use Rattle.wf_table.specs.Ends.{AllEndWithin, IsCallOf, IsReachedWithout}
+use Rattle.wf_table.specs.Left.{left_to}
+use Rattle.wf_table.specs.Limit.{AllWithinLimit, StaysBelow, AllSumBodies, IsWithinLimit}
 use Rattle.wf_table.specs.Meaning.{Meaning}
 use Rattle.wf_table.specs.Law.{Effects}
-use Rattle.wf_bound.specs.Bound.{AllInRounds, AllWithinBound, IsWithinBound}
-use Rattle.wf_bound.specs.Calls.{BeginsOne, own_spent}
+use Rattle.wf_table.specs.Bound.{AllInRounds, AllWithinBound, IsWithinBound}
+use Rattle.wf_table.specs.Calls.{BeginsOne, own_spent}
 
 module _ {Run : Type 0} (m : Meaning Run) where
   -- an own step of an open call outside bodies leaves fewer such steps

@@ -8,10 +8,10 @@ use Rattle.wf_table.specs.Runs.{Act, ActsFit, run, IsRun}
 use Rattle.wf_table.specs.Object.{State}
 use Rattle.wf_table.specs.Sound.{IsSound}
 use Rattle.wf_table.specs.Start.{sizes_of}
-use Rattle.wf_commits.specs.Order.{IsAt}
-use Rattle.wf_commits.specs.Commits.{IsCommitted, announced_call, flips_at}
-use Rattle.wf_standing.specs.Stands.{IsStanding, Stands, InPart, word_in}
-use Rattle.wf_help.specs.Contents.{RootHolds, reply_word}
+use Rattle.wf_table.specs.Order.{IsAt}
+use Rattle.wf_table.specs.Commits.{IsCommitted, announced_call, flips_at}
+use Rattle.wf_table.specs.Stands.{IsStanding, Stands, InPart, word_in}
+use Rattle.wf_table.specs.Contents.{RootHolds, reply_word}
 use Rattle.wf_table.specs.Meaning.{Meaning}
 use Rattle.ob_interface.specs.Call.{ObjectCall}
 use Rattle.wf_history.specs.Legal.{IsLegal}

@@ -2,7 +2,7 @@
 
 ghost use Rattle.std.specs.Prelude.{◌≡◌, ◌+◌, ◌*◌};
 ghost use Rattle.wf_table.specs.declared.process.Sizes.{Sizes};
-ghost use Rattle.wf_bound.specs.Bound.{sharp, bound};
+ghost use Rattle.wf_table.specs.Bound.{sharp, bound};
 ghost use Rattle.wf_theorems.specs.Limits.{BodiesKeepLimit, BodiesLeaveNoMore, CountedRunIsRun, EveryRunEndsWithin, EveryRunIsInRounds};
 ghost use Rattle.wf_theorems.specs.Limits.{EveryRunIsLimited, EveryRunIsWithinBound, EveryRunStaysBelow, EveryRunSumsBodies, OwnStepsAreCounted};
 ghost use Rattle.wf_theorems.specs.Limits.{OwnStepsAreLimited, OwnStepsAreWithinBound, StepsLeaveFewer};

@@ -6,7 +6,7 @@ ghost use Rattle.wf_history.specs.declared.event.CallId.{CallId};
 ghost use Rattle.wf_history.specs.Legal.{NoRepeats};
 ghost use Rattle.wf_table.specs.declared.process.Sizes.{Sizes};
 ghost use Rattle.wf_table.specs.Object.{State};
-ghost use Rattle.wf_commits.specs.Commits.{IsCommitted};
+ghost use Rattle.wf_table.specs.Commits.{IsCommitted};
 ghost use Rattle.wf_theorems.specs.Commits.{EndedIsInOrder, EveryRunIsCommitted, ExchangePutsOlder, ExchangePutsOwn, OrderIsInTime};
 ghost use Rattle.wf_theorems.specs.Commits.{OrderWasAnnounced, ServedIsNew, ServedIsOpen, ServedIsWanted, ServedIsWhole, TwoExchangesPut};
 ghost use Rattle.wf_theorems.specs.Commits.{TwoRoundsPut};

@@ -5,7 +5,7 @@ use Rattle.std.proofs.lemmas.List.{length-append, length-map, length-set, length
 use Rattle.std.proofs.lemmas.Option.{slice_get_within}
 use Rattle.wf_history.specs.declared.event.CallId.{CallId}
 use Rattle.wf_outcomes.specs.Merges.{total}
-use Rattle.wf_outcomes.proofs.Lists.{sum_none, sum_set}
+use Rattle.wf_outcomes.proofs.OutcomesLists.{sum_none, sum_set}
 use Rattle.wf_whole_outcomes.specs.Tellings.{Telling, IsTold, Tells, none, more, replies_to, silence}
 use Rattle.wf_whole_outcomes.proofs.Numbering.{length_row, map_all, map_set}
 

@@ -1,8 +1,17 @@
+pub mod Advancing
+pub mod Arriving
+pub mod Backing
 pub mod Counting
 pub mod Ending
+pub mod Fronting
 pub mod Graphing
+pub mod Interning
+pub mod Layering
+pub mod Listing
 pub mod Merging
 pub mod Naming
+pub mod Noding
 pub mod Numbering
+pub mod Order
 pub mod Reading
 pub mod Standing

@@ -6,7 +6,7 @@ use Rattle.wf_history.specs.declared.event.CallId.{CallId}
 use Rattle.wf_outcomes.specs.Explored.{HasMore}
 use Rattle.wf_outcomes.specs.Merges as Merges
 use Rattle.wf_outcomes.specs.Merges.{Configuration, IsStep, Leads, start}
-use Rattle.wf_outcomes.proofs.Lists.{same_configuration}
+use Rattle.wf_outcomes.proofs.OutcomesLists.{same_configuration}
 use Rattle.wf_whole_outcomes.specs.Tellings.{HasMoreTold, IsTold, Telling, Tells, none, more, replies_to, silence}
 use Rattle.wf_whole_outcomes.proofs.Ending.{of_each}
 use Rattle.wf_whole_outcomes.proofs.Numbering.{length_row, map_all, map_set}

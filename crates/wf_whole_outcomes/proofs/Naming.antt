@@ -1,7 +1,7 @@
 -- The names of calls, by the processes that call one after the other.
 use Rattle.std.proofs.Common.{◌≡◌, refl, sym, ap, subst, ℕ, ◌+◌, suc, List, [], ◌∷◌, length, get_or, set, inl, inr, arith}
 use Rattle.wf_history.specs.declared.event.CallId.{CallId}
-use Rattle.wf_layers.specs.Layers.{Precedes}
+use Rattle.wf_whole_outcomes.specs.Layers.{Precedes}
 use Rattle.wf_whole_outcomes.specs.Leaves.{named}
 use Rattle.wf_whole_outcomes.specs.Wholes.{IsBefore}
 

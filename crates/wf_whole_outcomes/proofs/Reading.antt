@@ -7,14 +7,14 @@ use Rattle.std.proofs.lemmas.List.Elements.{All-cons, All-contains, All-nil}
 use Rattle.std.specs.List.{slice_get}
 use Rattle.wf_history.proofs.Positions.{contains_at, place_push}
 use Rattle.wf_history.specs.declared.event.CallId.{CallId}
-use Rattle.wf_layers.specs.Graph.{Spot, IsNarrow, next_from}
-use Rattle.wf_layers.specs.Layers.{walk, ways_of}
-use Rattle.wf_layers.specs.Nodes.{AreNodes, IsFront, IsNode, first_spot, lists_in, spot_in, spots_in, trail_in}
-use Rattle.wf_layers.specs.declared.nodes.Node.{Node}
-use Rattle.wf_layers.specs.declared.search.Front.{Front}
-use Rattle.wf_layers.specs.declared.edges.Edge.{Edge}
-use Rattle.wf_layers.proofs.Advancing.{of_process}
-use Rattle.wf_layers.proofs.Listing.{beside, in_map, item_at}
+use Rattle.wf_whole_outcomes.specs.LayersGraph.{Spot, IsNarrow, next_from}
+use Rattle.wf_whole_outcomes.specs.Layers.{walk, ways_of}
+use Rattle.wf_whole_outcomes.specs.Nodes.{AreNodes, IsFront, IsNode, first_spot, lists_in, spot_in, spots_in, trail_in}
+use Rattle.wf_whole_outcomes.specs.declared.nodes.Node.{Node}
+use Rattle.wf_whole_outcomes.specs.declared.search.Front.{Front}
+use Rattle.wf_whole_outcomes.specs.declared.edges.Edge.{Edge}
+use Rattle.wf_whole_outcomes.proofs.Advancing.{of_process}
+use Rattle.wf_whole_outcomes.proofs.Listing.{beside, in_map, item_at}
 use Rattle.wf_outcomes.specs.Explored.{Kept}
 use Rattle.wf_whole_outcomes.specs.Leaves.{AreLeaves, IsLeaf, IsTellable, named}
 use Rattle.wf_whole_outcomes.specs.Wholes.{WholeTold}

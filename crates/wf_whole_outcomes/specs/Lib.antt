@@ -1,5 +1,8 @@
-pub mod Graph
+pub mod Layers
+pub mod LayersGraph
 pub mod Leaves
+pub mod Nodes
 pub mod Tellings
 pub mod View
+pub mod WholeGraph
 pub mod Wholes

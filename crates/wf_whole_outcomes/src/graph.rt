@@ -4,14 +4,14 @@ ghost use Rattle.std.specs.Prelude.{◌≡◌, ◌<◌, ◌+◌, map, length, sl
 ghost use Rattle.ob_interface.specs.View.{reply_of};
 ghost use Rattle.wf_history.specs.View.{kept_reply};
 ghost use Rattle.wf_outcomes.specs.Explored.{all_kept, calls_in};
-ghost use Rattle.wf_layers.specs.Graph.{AreApart, GoesOn, IsNarrow, rows_in};
-ghost use Rattle.wf_whole_outcomes.specs.Graph.{AreRows, IsRow, SaysEdge};
+ghost use Rattle.wf_whole_outcomes.specs.LayersGraph.{AreApart, GoesOn, IsNarrow, rows_in};
+ghost use Rattle.wf_whole_outcomes.specs.WholeGraph.{AreRows, IsRow, SaysEdge};
 
+use crate::Edge;
 use ob_interface::NoMemory;
 use ob_interface::call::Reply;
 use std::alloc::Global;
 use wf_history::{KeptReply, same_reply};
-use wf_layers::Edge;
 use wf_order::Object;
 use wf_outcomes::{Explored, Onward};
 

@@ -2,19 +2,19 @@
 
 ghost use Rattle.std.specs.Prelude.{◌≡◌, ◌<◌, ◌∷◌, [], map, length, get_or, replicate, slice_get, Some, All, IfOk};
 ghost use Rattle.wf_history.specs.View.{kept_reply};
-ghost use Rattle.wf_layers.specs.Graph.{IsNarrow, rows_in};
-ghost use Rattle.wf_layers.specs.Layers.{ways_of};
-ghost use Rattle.wf_layers.specs.Nodes.{IsFront, lists_in, spots_in, trail_in};
+ghost use Rattle.wf_whole_outcomes.specs.LayersGraph.{IsNarrow, rows_in};
+ghost use Rattle.wf_whole_outcomes.specs.Layers.{ways_of};
+ghost use Rattle.wf_whole_outcomes.specs.Nodes.{IsFront, lists_in, spots_in, trail_in};
 ghost use Rattle.wf_outcomes.specs.Explored.{all_kept};
 ghost use Rattle.wf_whole_outcomes.specs.Leaves.{AreLeaves, IsLeaf, IsTellable, named, said_in};
 ghost use Rattle.wf_whole_outcomes.specs.View.{replies_in, whole_in};
 
 use crate::graph::Graph;
 use crate::wholes::ToldWhole;
+use crate::{Edge, Front, Lists, way_back};
 use ob_interface::NoMemory;
 use std::alloc::Global;
 use wf_history::{CallId, KeptReply, KeptScalars};
-use wf_layers::{Edge, Front, Lists, way_back};
 use wf_order::Object;
 use wf_outcomes::Explored;
 

@@ -1,15 +1,22 @@
-//! All whole outcomes of the merges of scripts: all replies and the last state together, each once, with the first order that
-//! gives it.
+//! All whole outcomes of the merges of scripts: all replies and the last state together, each once, with the first order that gives it.
 //!
-//! What an exploration has found is a graph: `graph_of` has its edges, with numbers for replies. `search_all` of wf_layers goes
-//! over it layer by layer, and keeps of each way only where it leads and which replies it has; `leaves_told` reads the last
-//! layer.
-//!
-//! One may rely on the clauses of `wholes_told`, which are in the words of `specs/Tellings.antt` and `specs/Wholes.antt`.
+//! What an exploration has found is a graph. `search_all` goes over it layer by layer, and keeps of each way only where it leads and what was
+//! said on it; `leaves_told` reads the last layer. One may rely on the clauses of `search_all`, `way_back` and `wholes_told`.
 #![tactic(auto)]
 
+pub mod edges;
 mod graph;
+pub mod growing;
+pub mod keys;
 mod leaves;
+pub mod nodes;
+pub mod search;
+pub mod ways;
 pub mod wholes;
 
+pub use edges::Edge;
+pub use growing::{Came, Ground};
+pub use nodes::{Layer, Lists, Node, Said, Told};
+pub use search::{Front, LayersFault, search_all};
+pub use ways::way_back;
 pub use wholes::{ToldWhole, wholes_told};

@@ -1,23 +1,23 @@
 //! Whole outcomes.
 
 ghost use Rattle.std.specs.Prelude.{◌≡◌, map, length, IfOk, IsErrOf};
-ghost use Rattle.wf_layers.specs.Graph.{IsNarrow, next_from, rows_in};
-ghost use Rattle.wf_layers.specs.Layers.{HasOver};
-ghost use Rattle.wf_layers.specs.Nodes.{IsFront, first_spot};
+ghost use Rattle.wf_whole_outcomes.specs.LayersGraph.{IsNarrow, next_from, rows_in};
+ghost use Rattle.wf_whole_outcomes.specs.Layers.{HasOver};
+ghost use Rattle.wf_whole_outcomes.specs.Nodes.{IsFront, first_spot};
 ghost use Rattle.wf_outcomes.specs.Explored.{calls_in};
 ghost use Rattle.wf_outcomes.specs.Merges.{total};
-ghost use Rattle.wf_told.specs.Told.{IsItself};
+ghost use Rattle.wf_outcomes.specs.Told.{IsItself};
 ghost use Rattle.wf_whole_outcomes.specs.Tellings.{HasMoreTold};
 ghost use Rattle.wf_whole_outcomes.specs.View.{whole_in};
 ghost use Rattle.wf_whole_outcomes.specs.Wholes.{AreWholes};
 
 use crate::graph::graph_of;
 use crate::leaves::leaves_told;
+use crate::{Front, Ground, LayersFault, search_all};
 use ob_interface::NoMemory;
 use std::alloc::Global;
 use std::hash::RandomState;
 use wf_history::{CallId, KeptCall, KeptReply};
-use wf_layers::{Front, Ground, LayersFault, search_all};
 use wf_order::Object;
 use wf_outcomes::{ExploreFault, Explored};
 

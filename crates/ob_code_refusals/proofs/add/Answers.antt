@@ -1,9 +1,9 @@
 -- What was read is what each run asks for.
 use Rattle.std.proofs.Common.{◌<◌, All, List, subst, sym}
-use Rattle.ob_code_law.specs.Compiled.{IsFitting}
+use Rattle.ob_code_correct.specs.Compiled.{IsFitting}
 use Rattle.ob_object_compile.specs.View.{object_in}
-use Rattle.ob_schedule.specs.Schedule.{process_of}
-use Rattle.ob_schedule.specs.declared.item.Item.{Item}
+use Rattle.ob_text_words.specs.Schedule.{process_of}
+use Rattle.ob_text_words.specs.declared.item.Item.{Item}
 use Rattle.ob_text_words.specs.ScriptCalls.{object_call, script_call_of}
 use Rattle.ob_text_words.specs.declared.script_call.ScriptCall.{ScriptCall}
 use Rattle.ob_code_refusals.proofs.add.Goals as goal

@@ -10,8 +10,7 @@ use ob_grammar::tree::{
     ConstDecl, Constants, DEEPEST_NESTING, Declarations, Expr, ModuleTree, Name, Procedure,
     Section, Stmt, TypeDecl, TypeExpr, Types, VarDecl, Variables,
 };
-use ob_parser_source::TokenSource;
-use ob_scan::Kind;
+use ob_scan::{Kind, TokenSource};
 
 /// The heading of a procedure, with the place of PROCEDURE.
 #[derive(Drop)]

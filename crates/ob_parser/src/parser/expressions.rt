@@ -13,9 +13,8 @@ ghost use Rattle.ob_parser.specs.Answers.{IsAt, Went, Answers, selector_of};
 
 use crate::parser::{ParseFault, Parser};
 use ob_grammar::tree::{DEEPEST_NESTING, Designator, Expr, Operand, Operator, Selector, Sign};
-use ob_parser_source::TokenSource;
-use ob_scan::Kind;
 use ob_scan::token::LARGEST_NUMBER;
+use ob_scan::{Kind, TokenSource};
 
 /// The number that digits spell.
 fn number_of(digits: &[u8]) -> i32

@@ -9,8 +9,7 @@ ghost use Rattle.ob_parser.specs.Answers.{Answers, AnswersName};
 
 use crate::parser::{ParseFault, Parser};
 use ob_grammar::tree::Name;
-use ob_parser_source::TokenSource;
-use ob_scan::Kind;
+use ob_scan::{Kind, TokenSource};
 use std::alloc::{AllocError, Global};
 
 /// The text of a name.

@@ -10,8 +10,7 @@ ghost use Rattle.ob_parser.specs.SourceFaults.{IsSourceFault, TellsNoTree};
 
 use crate::parser::{ParseFault, Parser};
 use ob_grammar::module::Module;
-use ob_parser_source::ScannedTokens;
-use ob_scan::ScanFault;
+use ob_scan::{ScanFault, ScannedTokens};
 use std::alloc::Global;
 use thiserror::Error;
 

@@ -8,8 +8,7 @@ ghost use Rattle.ob_parser.specs.Answers.{IsAt, GoesOnAsAssignment, Answers, Ans
 
 use crate::parser::{ParseFault, Parser};
 use ob_grammar::tree::{Branch, DEEPEST_NESTING, Designator, Expr, Stmt};
-use ob_parser_source::TokenSource;
-use ob_scan::Kind;
+use ob_scan::{Kind, TokenSource};
 
 impl<S: TokenSource> Parser<S> {
     /// StatementSequence = statement {";" statement}

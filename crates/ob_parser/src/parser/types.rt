@@ -7,8 +7,7 @@ ghost use Rattle.ob_parser.specs.Answers.{IsAt, Answers, AnswersPart, field_list
 
 use crate::parser::{ParseFault, Parser};
 use ob_grammar::tree::{DEEPEST_NESTING, FieldList, TypeExpr};
-use ob_parser_source::TokenSource;
-use ob_scan::Kind;
+use ob_scan::{Kind, TokenSource};
 
 impl<S: TokenSource> Parser<S> {
     /// type = ident | ArrayType | RecordType

@@ -2,7 +2,7 @@
 
 ghost use Rattle.std.specs.Prelude.{◌≡◌, ◌↔◌, ℕ, [], ◌∷◌, true, false, map, IsTrue, IfOk, IfErr, OnErr, List};
 ghost use Rattle.ob_interface.specs.View.{signature_of};
-ghost use Rattle.ob_text_exports.specs.Values.{AreValues, types_of};
+ghost use Rattle.ob_text_words.specs.Values.{AreValues, types_of};
 ghost use Rattle.ob_text_scripts.specs.Script.{IsSkipped, Makes};
 ghost use Rattle.ob_text_scripts.specs.ScriptLine.{HasFault, MakesOrSkips};
 ghost use Rattle.ob_text_words.specs.Finding.{FindsAs};
@@ -11,9 +11,9 @@ ghost use Rattle.ob_text_words.specs.ScriptCalls.{script_call_of};
 use crate::script::ScriptFault;
 use ob_interface::export::{Export, Formal};
 use ob_interface::scalar::Scalar;
-use ob_text_exports::exports::export_named;
-use ob_text_exports::values::read_values;
+use ob_text_words::exports::export_named;
 use ob_text_words::numbers::read_process;
+use ob_text_words::parameters::read_values;
 use ob_text_words::script_call::ScriptCall;
 use ob_text_words::words::is_name;
 use smallvec::SmallVec;

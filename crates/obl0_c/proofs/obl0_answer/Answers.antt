@@ -1,4 +1,4 @@
-use Rattle.ob_handed.proofs.HandedOver.{hand_over}
+use Rattle.ob_answer_files.proofs.HandedOver.{hand_over}
 use Rattle.obl0_c.specs.Asked.{IsJoinedAnswer}
 use Rattle.obl0_c.proofs.obl0_answer.Goals as goal
 

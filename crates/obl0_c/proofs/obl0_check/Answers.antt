@@ -1,5 +1,5 @@
 use Rattle.ob_answer.specs.Answers.{IsCheckAnswer}
-use Rattle.ob_handed.proofs.HandedOver.{handed_whole}
+use Rattle.ob_answer_files.proofs.HandedOver.{handed_whole}
 use Rattle.obl0_c.proofs.WholeModules.{of_beginning}
 use Rattle.obl0_c.proofs.obl0_check.Goals as goal
 

@@ -1,6 +1,6 @@
 use Rattle.std.proofs.Common.{None}
 use Rattle.ob_answer.specs.Answers.{IsPictureAnswer}
-use Rattle.ob_handed.proofs.HandedOver.{handed_whole}
+use Rattle.ob_answer_files.proofs.HandedOver.{handed_whole}
 use Rattle.ob_object_compile.specs.Asked.{Asked}
 use Rattle.ob_object_compile.specs.View.{asked_of}
 use Rattle.ob_object_perform.specs.Texts.{run_texts}

@@ -1,6 +1,6 @@
 use Rattle.ob_answer_explained.specs.Explains.{IsModuleExplained}
 use Rattle.obl0_c.specs.Asked.{module_name}
-use Rattle.ob_handed.proofs.HandedOver.{handed_whole}
+use Rattle.ob_answer_files.proofs.HandedOver.{handed_whole}
 use Rattle.obl0_c.proofs.WholeModules.{of_beginning}
 use Rattle.obl0_c.proofs.obl0_explain.Goals as goal
 

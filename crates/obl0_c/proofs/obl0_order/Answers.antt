@@ -1,6 +1,6 @@
 use Rattle.std.proofs.Common.{None}
-use Rattle.ob_answer_orders.specs.Orders.{IsOrderAnswer}
-use Rattle.ob_handed.proofs.HandedOver.{handed_whole}
+use Rattle.ob_answer_searches.specs.Orders.{IsOrderAnswer}
+use Rattle.ob_answer_files.proofs.HandedOver.{handed_whole}
 use Rattle.obl0_c.proofs.WholeModules.{of_beginning}
 use Rattle.obl0_c.proofs.obl0_order.Goals as goal
 

@@ -1,5 +1,5 @@
 use Rattle.ob_answer.specs.Answers.{IsSeqAnswer}
-use Rattle.ob_handed.proofs.HandedOver.{handed_whole}
+use Rattle.ob_answer_files.proofs.HandedOver.{handed_whole}
 use Rattle.ob_object_compile.specs.Asked.{Asked}
 use Rattle.ob_object_compile.specs.View.{asked_of}
 use Rattle.obl0_c.proofs.WholeModules.{object_made}

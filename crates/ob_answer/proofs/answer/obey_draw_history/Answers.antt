@@ -3,10 +3,10 @@ use Rattle.std.proofs.lemmas.Result.{IfOk-weaker}
 use Rattle.ob_answer.specs.Answers.{IsMade}
 use Rattle.ob_answer_files.specs.Reads.{AreTwoRead}
 use Rattle.ob_answer_files.specs.declared.reading.TwoFiles.{TwoFiles}
-use Rattle.ob_answer_orders.specs.HistoryPictureAnswers.{IsHistoryPictureAnswer}
+use Rattle.ob_answer_searches.specs.HistoryPictureAnswers.{IsHistoryPictureAnswer}
 use Rattle.ob_command.specs.CommandLine.{DrawHistory}
 use Rattle.ob_command.specs.Commands.{seen_request_of}
-use Rattle.ob_text_picture_chart.specs.declared.charts.CallRange.{CallRange}
+use Rattle.ob_picture_chart.specs.declared.charts.CallRange.{CallRange}
 use Rattle.ob_answer_files.proofs.FilesRead.{two_made, unread_outcome}
 use Rattle.ob_answer.proofs.answer.obey_draw_history.Goals as goal
 

@@ -4,7 +4,7 @@ use Rattle.ob_answer.specs.Answers.{IsBoundAnswer}
 use Rattle.ob_answer_explained.proofs.AtOnce.{holds_of_whole, object_refused}
 use Rattle.ob_answer.proofs.Made.{text_refused}
 use Rattle.ob_fault_lines.specs.CompileFaultLines.{compile_line}
-use Rattle.ob_object_bound.specs.Numbers.{IsBoundText}
+use Rattle.ob_object_perform.specs.Numbers.{IsBoundText}
 use Rattle.ob_object_compile.specs.Asked.{ByBody, by_body}
 use Rattle.ob_object_compile.specs.Compilation.{IsNumbered, IsRefusal, IsShort}
 use Rattle.ob_answer_files.specs.Printed.{said}

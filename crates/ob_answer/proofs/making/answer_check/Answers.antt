@@ -6,7 +6,7 @@ use Rattle.ob_answer.proofs.Made.{text_refused}
 use Rattle.ob_fault_lines.specs.CompileFaultLines.{compile_line}
 use Rattle.ob_object_compile.specs.Asked.{ByBody, by_body}
 use Rattle.ob_object_compile.specs.Compilation.{IsNumbered, IsRefusal, IsShort, default_budget}
-use Rattle.ob_object_sequence.specs.SequentialRun.{HasObject}
+use Rattle.ob_object_calls.specs.SequentialRun.{HasObject}
 use Rattle.ob_answer_files.specs.Printed.{said}
 use Rattle.ob_answer.proofs.making.answer_check.Goals as goal
 

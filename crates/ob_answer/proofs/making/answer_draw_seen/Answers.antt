@@ -2,7 +2,7 @@ use Rattle.std.proofs.Common.{◌∙◌, Bool, IfOk, None, subst, sym}
 use Rattle.std.specs.Bool.{MatchBool}
 use Rattle.ob_answer.specs.Answers.{IsRecordPictureAnswer}
 use Rattle.ob_answer_files.specs.Reads.{OfWhole}
-use Rattle.ob_answer_orders.specs.HistoryPictureAnswers.{IsHistoryPictureAnswer}
+use Rattle.ob_answer_searches.specs.HistoryPictureAnswers.{IsHistoryPictureAnswer}
 use Rattle.ob_command.specs.CommandLine.{default_most}
 use Rattle.ob_answer.proofs.making.answer_draw_seen.Goals as goal
 

@@ -4,8 +4,8 @@ use Rattle.ob_answer_explained.specs.CommandTexts.{of_text}
 use Rattle.ob_answer_explained.proofs.AtOnce.{holds_of_whole}
 use Rattle.ob_answer.proofs.AtOnceMade.{workers_refused}
 use Rattle.ob_answer.proofs.Made.{text_refused}
-use Rattle.ob_desk_texts.specs.ServedTexts.{IsNumbered, IsServedPrinted, IsUngatedRefusal}
-use Rattle.ob_desk_texts.specs.declared.texts.ServeTextFault.TheVariants as Serve
+use Rattle.ob_desk_serve.specs.ServedTexts.{IsNumbered, IsServedPrinted, IsUngatedRefusal}
+use Rattle.ob_desk_serve.specs.declared.texts.ServeTextFault.TheVariants as Serve
 use Rattle.ob_fault_lines.specs.ServeFaultLines.{serve_fault_line}
 use Rattle.ob_object_compile.specs.View.{asked_of, beginning_of}
 use Rattle.ob_object_perform.specs.declared.performing.PerformFault.TheVariants as Perform

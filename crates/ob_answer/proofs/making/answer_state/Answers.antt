@@ -9,7 +9,7 @@ use Rattle.ob_object_compile.specs.View.{beginning_of}
 use Rattle.ob_object_perform.specs.Performance.{IsNumbered, IsRefusal}
 use Rattle.ob_object_perform.specs.Texts.{texts_of}
 use Rattle.ob_object_perform.specs.declared.performing.PerformFault.TheVariants as Perform
-use Rattle.ob_object_state.specs.Behind.{IsStatePrinted}
+use Rattle.ob_object_perform.specs.Behind.{IsStatePrinted}
 use Rattle.ob_answer_files.specs.Printed.{said}
 use Rattle.ob_answer.proofs.making.answer_state.Goals as goal
 

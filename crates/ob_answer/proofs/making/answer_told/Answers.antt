@@ -5,9 +5,9 @@ use Rattle.ob_answer_explained.proofs.AtOnce.{calls_refused, holds_of_whole}
 use Rattle.ob_answer.proofs.Made.{text_refused}
 use Rattle.ob_fault_lines.specs.SequentialFaultLines.{seq_fault_line}
 use Rattle.ob_object_compile.specs.View.{asked_of, beginning_of}
-use Rattle.ob_object_sequence.specs.SequentialRun.{IsNumbered, IsSeqRefusal}
-use Rattle.ob_object_sequence.specs.ToldRun.{IsToldRun}
-use Rattle.ob_object_sequence.specs.declared.sequential.SeqTextFault.TheVariants as Runs
+use Rattle.ob_object_calls.specs.SequentialRun.{IsNumbered, IsSeqRefusal}
+use Rattle.ob_object_calls.specs.ToldRun.{IsToldRun}
+use Rattle.ob_object_calls.specs.declared.sequential.SeqTextFault.TheVariants as Runs
 use Rattle.ob_answer_files.specs.Printed.{said}
 use Rattle.ob_answer.proofs.making.answer_told.Goals as goal
 

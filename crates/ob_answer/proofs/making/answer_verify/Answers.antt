@@ -1,7 +1,7 @@
 use Rattle.std.proofs.Common.{◌≡◌, codes, rules, string_bytes}
 use Rattle.ob_answer_explained.proofs.Beginnings.{of_whole}
 use Rattle.ob_answer.proofs.Made.{verify_refused_made}
-use Rattle.ob_object_verify.specs.Verified.{IsVerified}
+use Rattle.ob_object_calls.specs.Verified.{IsVerified}
 use Rattle.ob_answer_files.specs.Printed.{said}
 use Rattle.ob_answer.proofs.making.answer_verify.Goals as goal
 

@@ -1,7 +1,7 @@
 use Rattle.std.proofs.Common.{◌∷◌, ℕ, List, subst}
 use Rattle.std.proofs.lemmas.Result.{IfOk-weaker}
 use Rattle.ob_answer.specs.Answers.{IsRunMade}
-use Rattle.ob_schedule_made.specs.Finish.{IsFinished}
+use Rattle.ob_text_scripts.specs.Finish.{IsFinished}
 use Rattle.ob_answer.specs.declared.product.Product.{Product}
 use Rattle.ob_answer_files.specs.Reads.{record_in_run}
 use Rattle.ob_command.specs.Commands.{run_request_of}

@@ -1,7 +1,7 @@
 use Rattle.std.proofs.Common.{Global, ℕ, List, Vec, string_bytes, subst, sym}
 use Rattle.std.proofs.lemmas.Result.{IfOk-weaker}
-use Rattle.ob_schedule_made.specs.Chance.{IsOfSteps}
-use Rattle.ob_schedule_made.specs.Finish.{IsFinished}
+use Rattle.ob_text_scripts.specs.Chance.{IsOfSteps}
+use Rattle.ob_text_scripts.specs.Finish.{IsFinished}
 use Rattle.ob_answer.proofs.making_schedules.chance_schedule.Goals as goal
 
 pub returns-then-run : goal.returns-then-run

@@ -4,8 +4,8 @@ use Rattle.ob_answer_explained.specs.CommandTexts.{calls_of_text, calls_texts_of
 use Rattle.ob_answer_explained.specs.Explains.{HasRun, IsCallsFaultShown, right}
 use Rattle.ob_answer_explained.proofs.AtOnce.{calls_refused, holds_of_whole}
 use Rattle.ob_answer_explained.proofs.Shown.{calls_shown, wrong_made}
-use Rattle.ob_object_sequence.specs.SequentialRun.{IsNumbered, IsSeqRefusal, IsSequentialRun}
-use Rattle.ob_object_sequence.specs.declared.sequential.SeqTextFault.TheVariants as Runs
+use Rattle.ob_object_calls.specs.SequentialRun.{IsNumbered, IsSeqRefusal, IsSequentialRun}
+use Rattle.ob_object_calls.specs.declared.sequential.SeqTextFault.TheVariants as Runs
 use Rattle.ob_answer_explained.proofs.explaining.explain_calls.Goals as goal
 
 pub returns-in_ok-from_str-in-Ok : goal.returns-in_ok-from_str-in-Ok

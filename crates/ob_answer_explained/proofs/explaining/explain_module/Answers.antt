@@ -5,7 +5,7 @@ use Rattle.ob_answer_explained.proofs.AtOnce.{holds_of_whole, object_refused}
 use Rattle.ob_answer_explained.proofs.Shown.{module_shown, wrong_made}
 use Rattle.ob_object_compile.specs.Asked.{by_body}
 use Rattle.ob_object_compile.specs.Compilation.{IsNumbered, IsRefusal, IsShort, default_budget}
-use Rattle.ob_object_sequence.specs.SequentialRun.{HasObject}
+use Rattle.ob_object_calls.specs.SequentialRun.{HasObject}
 use Rattle.ob_answer_explained.proofs.explaining.explain_module.Goals as goal
 
 pub returns-in_ok-from_str-in-Ok : goal.returns-in_ok-from_str-in-Ok

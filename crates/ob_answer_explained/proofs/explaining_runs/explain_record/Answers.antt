@@ -1,6 +1,6 @@
 use Rattle.std.proofs.Common.{◌≡◌, codes, rules, string_bytes}
 use Rattle.ob_answer_explained.specs.Explains.{right}
-use Rattle.ob_object_verify.specs.Verified.{IsVerified}
+use Rattle.ob_object_calls.specs.Verified.{IsVerified}
 use Rattle.ob_answer_explained.proofs.Beginnings.{of_whole}
 use Rattle.ob_answer_explained.proofs.Shown.{record_wrong_made}
 use Rattle.ob_answer_explained.proofs.explaining_runs.explain_record.Goals as goal

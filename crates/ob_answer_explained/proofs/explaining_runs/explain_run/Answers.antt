@@ -8,7 +8,7 @@ use Rattle.ob_object_compile.specs.Compilation.{IsShort}
 use Rattle.ob_object_perform.specs.Performance.{IsNumbered, IsPerformance, IsRefusal}
 use Rattle.ob_object_perform.specs.Printed.{HasPerformance}
 use Rattle.ob_object_perform.specs.declared.performing.PerformFault.TheVariants as Perform
-use Rattle.ob_object_record.specs.Record.{record_of}
+use Rattle.ob_text_record.specs.Record.{record_of}
 use Rattle.ob_answer_explained.proofs.explaining_runs.explain_run.Goals as goal
 
 pub returns-in_ok-from_str-in-Ok : goal.returns-in_ok-from_str-in-Ok

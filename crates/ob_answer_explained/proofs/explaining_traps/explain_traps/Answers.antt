@@ -4,7 +4,7 @@ use Rattle.ob_answer_explained.specs.CommandTexts.{calls_of_text, calls_texts_of
 use Rattle.ob_answer_explained.specs.Explains.{TellsTraps, traps_told}
 use Rattle.ob_answer_explained.proofs.AtOnce.{holds_of_whole}
 use Rattle.ob_answer_explained.proofs.Shown.{traps_untold_made}
-use Rattle.ob_object_sequence.specs.declared.sequential.SeqTextFault.TheVariants as Runs
+use Rattle.ob_object_calls.specs.declared.sequential.SeqTextFault.TheVariants as Runs
 use Rattle.ob_answer_explained.proofs.explaining_traps.explain_traps.Goals as goal
 
 pub returns-in-Ok : goal.returns-in-Ok

@@ -1,6 +1,6 @@
 use Rattle.std.proofs.Common.{subst, sym}
 use Rattle.std.proofs.Math.Logic.{∥∥₁_elim}
-use Rattle.ob_agreement.specs.Resolved.{AreDistinct, module_scope}
+use Rattle.ob_meaning.specs.Resolved.{AreDistinct, module_scope}
 use Rattle.ob_checked.specs.CheckedModule.{program_in, tree_in}
 use Rattle.ob_carry.proofs.Variables.{distinct_prop}
 use Rattle.ob_carry.proofs.carrying.carry.Goals as goal

@@ -2,8 +2,8 @@ use Rattle.std.proofs.Common.{◌≡◌, ◌∙◌, [], ap, ap₂, arith, get_or
 use Rattle.std.proofs.lemmas.List.{with_items_is}
 use Rattle.std.proofs.lemmas.List.Elements.{All-nil}
 use Rattle.ob_checked.specs.View.{program_of, table_of, variable_of}
-use Rattle.ob_positions.specs.Store.{begun, with_held}
-use Rattle.ob_agreement.specs.Same.{SameState}
+use Rattle.ob_meaning.specs.ByPositionStore.{begun, with_held}
+use Rattle.ob_meaning.specs.Same.{SameState}
 use Rattle.ob_store.specs.View.{value_in, variables_in}
 use Rattle.ob_carry.specs.Carried.{IsCarriable, carried, position_from}
 use Rattle.ob_carry.proofs.Carried.{carriable_more, carried_none, state_more, unfit_at, unknown_at}

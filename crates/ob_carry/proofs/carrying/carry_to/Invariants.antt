@@ -1,5 +1,5 @@
 use Rattle.std.proofs.Common.{take}
-use Rattle.ob_agreement.specs.Same.{SameState}
+use Rattle.ob_meaning.specs.Same.{SameState}
 use Rattle.ob_checked.specs.View.{program_of}
 use Rattle.ob_store.specs.View.{variables_in}
 use Rattle.ob_carry.specs.Carried.{AreCarriable, carried}

@@ -1,7 +1,7 @@
 use Rattle.std.proofs.Common.{◌∙◌, Some, ap, arith, sym}
 use Rattle.ob_checked.specs.Types.{fields_by, type_in, types_of}
 use Rattle.ob_checked.specs.View.{table_of}
-use Rattle.ob_meaning.specs.Value as Meanings
+use Rattle.ob_meaning.specs.ByNameValue as Meanings
 use Rattle.ob_carry.specs.Values.{IsValueOf}
 use Rattle.ob_carry.specs.View.{elements_of, fields_of, named_in}
 use Rattle.ob_carry.proofs.Fitted.{array_made, count_of_elements, count_of_fields, element_among, elements_step, field_among, fields_step, names_differ, names_same, record_made}

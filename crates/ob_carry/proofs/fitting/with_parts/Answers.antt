@@ -1,5 +1,5 @@
 use Rattle.std.proofs.Common.{Some, ap, sym, ◌∙◌, option_map}
-use Rattle.ob_positions.specs.Value as Positions
+use Rattle.ob_meaning.specs.ByPositionValue as Positions
 use Rattle.ob_store.proofs.Parts.{value_in-parts}
 use Rattle.ob_store.specs.View.{values_in}
 use Rattle.ob_carry.proofs.fitting.with_parts.Goals as goal

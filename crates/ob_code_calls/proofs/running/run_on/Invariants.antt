@@ -1,6 +1,6 @@
 use Rattle.std.proofs.Common.{◌≡◌, ◌-◌}
 use Rattle.ob_code_calls.specs.Calls.{meaning_of}
-use Rattle.ob_code_law.specs.Compiled.{HasReserve}
+use Rattle.ob_code_correct.specs.Compiled.{HasReserve}
 use Rattle.wf_table.specs.Meaning.{steps}
 use Rattle.ob_code_calls.proofs.running.run_on.Given as goal
 

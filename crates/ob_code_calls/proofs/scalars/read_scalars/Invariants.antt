@@ -3,7 +3,7 @@ use Rattle.ob_checked.specs.Types.{Entry}
 use Rattle.ob_checked.specs.View.{variable_of}
 use Rattle.ob_code_calls.specs.Scalars.{held_of}
 use Rattle.ob_code_scheme.specs.Layout.{decoded}
-use Rattle.ob_positions.specs.Store.{Activation}
+use Rattle.ob_meaning.specs.ByPositionStore.{Activation}
 use Rattle.ob_code_calls.proofs.scalars.read_scalars.Given as goal
 
 -- what is read of the others stands behind what is read so far

@@ -4,8 +4,8 @@ use Rattle.std.proofs.lemmas.List.{drop_more}
 use Rattle.ob_checked.specs.View.{procedure_of, parameter_of, table_of}
 use Rattle.ob_checked.specs.declared.program.Procedure.{Procedure}
 use Rattle.ob_code_scheme.specs.Correct.{formals_of}
-use Rattle.ob_code_law.specs.CodeMeaning.{Entrance}
-use Rattle.ob_code_law.specs.Compiled.{entrances_from}
+use Rattle.ob_code_correct.specs.CodeMeaning.{Entrance}
+use Rattle.ob_code_correct.specs.Compiled.{entrances_from}
 use Rattle.ob_code_engine.proofs.Found.{hidden, made, one_more}
 use Rattle.ob_code_engine.proofs.entrance.entrances.Goals.{then-procedure+in_ok-parameters+in_ok-push, else-procedure}
 use Rattle.ob_code_engine.proofs.entrance.entrances.Goals as goal

@@ -1,6 +1,6 @@
 use Rattle.std.proofs.Common.{◌≡◌, ◌++◌, map, drop}
 use Rattle.ob_checked.specs.View.{procedure_of, table_of}
-use Rattle.ob_code_law.specs.Compiled.{entrances_from}
+use Rattle.ob_code_correct.specs.Compiled.{entrances_from}
 use Rattle.ob_code_engine.proofs.entrance.entrances.Given as goal
 
 -- the entrances so far, and those of the procedures that are left

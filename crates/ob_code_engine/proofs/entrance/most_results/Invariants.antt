@@ -1,5 +1,5 @@
 use Rattle.std.proofs.Common.{◌≡◌, max, drop}
-use Rattle.ob_code_law.specs.CodeMeaning.{most, result_count}
+use Rattle.ob_code_correct.specs.CodeMeaning.{most, result_count}
 use Rattle.ob_code_engine.proofs.entrance.most_results.Given as goal
 
 abbrev pub invariant-loop-entrance : goal.invariant-loop-entrance

@@ -2,7 +2,7 @@ use Rattle.std.proofs.Common.{◌≡◌, List, ◌∷◌, map, take, length, sym
 use Rattle.std.specs.Prelude.{ℤ, pos}
 use Rattle.std.proofs.lemmas.List.{length-map, length-take-le}
 use Rattle.ob_code_scheme.specs.Layout.{word}
-use Rattle.ob_code_law.specs.CodeMeaning.{padded}
+use Rattle.ob_code_correct.specs.CodeMeaning.{padded}
 use Rattle.ob_code_engine.proofs.Laid.{first_laid, set_next, words_next}
 use Rattle.ob_code_engine.proofs.words.lay.Goals as goal
 

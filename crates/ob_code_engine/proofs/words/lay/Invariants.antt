@@ -1,7 +1,7 @@
 use Rattle.std.proofs.Common.{◌≡◌, ◌+◌, ◌∷◌, map, take, length}
 use Rattle.std.specs.Prelude.{pos}
 use Rattle.ob_code_scheme.specs.Layout.{word}
-use Rattle.ob_code_law.specs.CodeMeaning.{padded}
+use Rattle.ob_code_correct.specs.CodeMeaning.{padded}
 use Rattle.ob_code_engine.proofs.words.lay.Given as goal
 
 -- the export and the arguments so far

@@ -1,5 +1,5 @@
 use Rattle.std.proofs.Common.{◌≡◌, ◌≤◌, ◌+◌, ◌++◌, drop, length}
-use Rattle.ob_code_law.specs.CodeMeaning.{values_of}
+use Rattle.ob_code_correct.specs.CodeMeaning.{values_of}
 use Rattle.ob_code_engine.proofs.words.push_values.Given as goal
 
 -- those so far, and those of the parameters that are left

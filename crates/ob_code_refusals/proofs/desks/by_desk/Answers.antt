@@ -1,7 +1,7 @@
 -- The machine of a desk is one of the object.
 use Rattle.std.proofs.Common.{◌<◌, ℕ, ap, subst, sym}
-use Rattle.ob_code_law.specs.CodeMeaning.{EngineParts}
-use Rattle.ob_desk_lock.specs.Desk.{Desk}
+use Rattle.ob_code_correct.specs.CodeMeaning.{EngineParts}
+use Rattle.ob_desk_floor.specs.Desk.{Desk}
 use Rattle.ob_desk_serve.proofs.Closed.{IsClosed}
 use Rattle.wf_table.specs.declared.process.Sizes.{Sizes}
 use Rattle.ob_code_refusals.proofs.desks.by_desk.Goals as goal

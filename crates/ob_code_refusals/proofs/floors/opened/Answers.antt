@@ -1,8 +1,8 @@
 -- The words of an object's opening are lawful for its engine, and the calls of its scripts fit it.
 use Rattle.std.proofs.Common.{◌≡◌, ◌∙◌, ◌<◌, ℕ, All, ap, subst, sym}
 use Rattle.ob_code_engine.specs.CodeEngine.{CompiledParts}
-use Rattle.ob_code_law.specs.CodeMeaning.{EngineParts}
-use Rattle.ob_code_law.specs.Compiled.{IsFitting}
+use Rattle.ob_code_correct.specs.CodeMeaning.{EngineParts}
+use Rattle.ob_code_correct.specs.Compiled.{IsFitting}
 use Rattle.ob_code_scheme.specs.Layout.{encoded}
 use Rattle.ob_desk_serve.proofs.Closed.{lawful_opening}
 use Rattle.ob_desk_serve.proofs.Submitted.{all_submitted}

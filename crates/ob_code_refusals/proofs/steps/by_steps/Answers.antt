@@ -1,7 +1,7 @@
 -- What holds of the object's processes and engine holds of the machine's.
 use Rattle.std.proofs.Common.{◌<◌, All, subst, sym, ℕ}
-use Rattle.ob_code_law.specs.CodeMeaning.{EngineParts}
-use Rattle.ob_code_law.specs.Compiled.{IsFitting}
+use Rattle.ob_code_correct.specs.CodeMeaning.{EngineParts}
+use Rattle.ob_code_correct.specs.Compiled.{IsFitting}
 use Rattle.ob_text_words.specs.ScriptCalls.{object_call, script_call_of}
 use Rattle.ob_text_words.specs.declared.script_call.ScriptCall.{ScriptCall}
 use Rattle.ob_code_refusals.proofs.steps.by_steps.Goals as goal

@@ -1,6 +1,6 @@
 -- What was read of the texts is what a desk asks for.
 use Rattle.std.proofs.Common.{◌<◌, List, All, subst, sym}
-use Rattle.ob_code_law.specs.Compiled.{IsFitting}
+use Rattle.ob_code_correct.specs.Compiled.{IsFitting}
 use Rattle.ob_object_compile.specs.View.{object_in}
 use Rattle.ob_text_words.specs.ScriptCalls.{object_call, script_call_of}
 use Rattle.ob_text_words.specs.declared.script_call.ScriptCall.{ScriptCall}

@@ -1,7 +1,7 @@
 use Rattle.std.proofs.Common.{◌≡◌, ◌∙◌, ◌<◌, ℕ, All, ap, subst, sym}
 use Rattle.ob_code_engine.specs.CodeEngine.{CompiledParts}
-use Rattle.ob_code_law.specs.CodeMeaning.{EngineParts}
-use Rattle.ob_code_law.specs.Compiled.{IsFitting}
+use Rattle.ob_code_correct.specs.CodeMeaning.{EngineParts}
+use Rattle.ob_code_correct.specs.Compiled.{IsFitting}
 use Rattle.ob_interface.specs.Call.{ObjectCall}
 use Rattle.ob_object_compile.specs.View.{object_in}
 use Rattle.ob_desk_serve.proofs.Closed.{lawful_opening}

@@ -1,8 +1,8 @@
 use Rattle.std.proofs.Common.{◌≡◌, ◌<◌, ◌∙◌, All, ap, subst, sym, ℕ}
-use Rattle.ob_code_law.specs.CodeMeaning.{EngineParts}
+use Rattle.ob_code_correct.specs.CodeMeaning.{EngineParts}
 use Rattle.ob_desk_serve.proofs.Closed.{is_object, legal_of, meant_of}
 use Rattle.ob_object_compile.specs.View.{object_in}
-use Rattle.ob_object_record.specs.Record.{Record, record_of}
+use Rattle.ob_text_record.specs.Record.{Record, record_of}
 use Rattle.ob_object_run.specs.Recorded.{DoFit}
 use Rattle.ob_desk_serve.specs.Served.{IsLegalRecord, IsMeantRecord}
 use Rattle.wf_table.specs.declared.schedule.Turns.{Turns}

@@ -1,18 +1,18 @@
 use Rattle.std.proofs.Common.{◌≡◌, ◌<◌, ◌∙◌, [], All, Global, List, Vec, ap, get_or, length, map, subst, sym, ℕ}
 use Rattle.std.proofs.lemmas.Result.{err_from_is_err_and}
-use Rattle.ob_desk_lock.specs.Close.{AreSeats}
-use Rattle.ob_desk_lock.specs.Desk.{Desk}
+use Rattle.ob_desk_floor.specs.Close.{AreSeats}
+use Rattle.ob_desk_floor.specs.Desk.{Desk}
 use Rattle.ob_desk_floor.specs.Agreeing.{Agrees}
 use Rattle.ob_desk_floor.specs.Seat.{Seat}
 use Rattle.ob_desk_floor.specs.declared.seat.CallAnswer.{CallAnswer}
 use Rattle.ob_code_machine.specs.Body.{Run}
 use Rattle.ob_code_engine.specs.CodeEngine.{CompiledParts}
-use Rattle.ob_code_law.specs.CodeMeaning.{EngineParts}
+use Rattle.ob_code_correct.specs.CodeMeaning.{EngineParts}
 use Rattle.ob_interface.specs.Call.{ObjectCall, Reply}
 use Rattle.ob_object_compile.specs.View.{object_in}
-use Rattle.ob_object_record.specs.Record.{record_of}
+use Rattle.ob_text_record.specs.Record.{record_of}
 use Rattle.ob_desk_serve.proofs.Closed.{IsClosed, TellsClosing, record_of_closed}
-use Rattle.ob_desk_serve.specs.Gathered.{lists_in}
+use Rattle.ob_desk_serve.specs.ServeGathered.{lists_in}
 use Rattle.ob_desk_serve.specs.ServeFaults.{IsLowestLost}
 use Rattle.ob_desk_serve.specs.Served.{EndsFirst, calls_for, desk_of}
 use Rattle.ob_text_words.specs.ScriptCalls.{script_call_of}

@@ -1,5 +1,5 @@
 use Rattle.std.proofs.Common.{◌≡◌, ◌∷◌, ◌<◌, ◌^◌, rules}
-use Rattle.ob_text_record_reading.specs.RecordLines.{id}
+use Rattle.ob_text_reading.specs.RecordLines.{id}
 use Rattle.ob_explained_lines.proofs.call_name.call_named.Goals as goal
 
 pub returns : goal.returns

@@ -1,6 +1,6 @@
 use Rattle.std.proofs.Common.{◌∙◌, ap, sym}
-use Rattle.ob_code_law.specs.CodeMeaning.{EngineParts}
-use Rattle.ob_code_law.specs.Compiled.{parts_of}
+use Rattle.ob_code_correct.specs.CodeMeaning.{EngineParts}
+use Rattle.ob_code_correct.specs.Compiled.{parts_of}
 use Rattle.ob_object_compile.proofs.Openings.{begins_typed, module_resolved}
 use Rattle.ob_object_compile.proofs.laws.compilations_are_sound.Goals as goal
 

@@ -6,8 +6,8 @@ use Rattle.ob_object_draw.proofs.Drawn.{marked_here}
 use Rattle.ob_object_draw.proofs.Faults.{range_fault, record_fault}
 use Rattle.ob_object_draw.proofs.NoPicture.{no_module, no_range, no_record}
 use Rattle.ob_object_draw.specs.RecordPictures.{moments_of}
-use Rattle.ob_text_picture_chart.specs.View.{mark_of}
-use Rattle.ob_text_record_reading.specs.Told.{told_of}
+use Rattle.ob_picture_chart.specs.ChartView.{mark_of}
+use Rattle.ob_text_reading.specs.RecordContents.{told_of}
 use Rattle.ob_object_draw.proofs.drawing.draw_record_text.Goals as goal
 
 pub returns-in_err-marked-clause-fault : goal.returns-in_err-marked-clause-fault

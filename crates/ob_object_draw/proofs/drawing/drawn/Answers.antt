@@ -6,11 +6,11 @@ use Rattle.ob_checked.specs.Exports.{signatures}
 use Rattle.ob_interface.specs.View.{signature_of}
 use Rattle.ob_object_draw.proofs.Drawn.{drawn}
 use Rattle.ob_object_draw.specs.RecordPictures.{moments_of}
-use Rattle.ob_text_picture_chart.specs.Charts.{begun}
-use Rattle.ob_text_picture_chart.specs.Faults.{IsRangeFault}
-use Rattle.ob_text_picture_chart.specs.Moments.{Moment}
-use Rattle.ob_text_picture_chart.specs.View.{chart_in, mark_of, moment_of}
-use Rattle.ob_text_record_reading.specs.Told.{told_of}
+use Rattle.ob_picture_chart.specs.Charts.{begun}
+use Rattle.ob_picture_chart.specs.Faults.{IsRangeFault}
+use Rattle.ob_picture_chart.specs.Moments.{Moment}
+use Rattle.ob_picture_chart.specs.ChartView.{chart_in, mark_of, moment_of}
+use Rattle.ob_text_reading.specs.RecordContents.{told_of}
 use Rattle.ob_object_draw.proofs.drawing.drawn.Goals as goal
 
 pub returns-clause-picture : goal.returns-clause-picture

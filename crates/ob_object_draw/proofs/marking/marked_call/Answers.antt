@@ -5,8 +5,8 @@ use Rattle.ob_object_draw.specs.Marks.{of_verify}
 use Rattle.ob_object_draw.specs.RecordPictures.{IsRefusal}
 use Rattle.ob_object_draw.specs.declared.drawing.DrawRecordFault.{DrawRecordFault}
 use Rattle.ob_object_draw.specs.declared.marking.Marked.{Marked}
-use Rattle.ob_object_verify.specs.VerifyFaults.{IsVerifyFault, too_long}
-use Rattle.ob_object_verify.specs.declared.verifying.VerifyFault.{VerifyFault}
+use Rattle.ob_object_calls.specs.VerifyFaults.{IsVerifyFault, too_long}
+use Rattle.ob_object_calls.specs.declared.verifying.VerifyFault.{VerifyFault}
 use Rattle.ob_object_draw.proofs.marking.marked_call.Goals as goal
 
 pub returns-in_ok-marked-in-Err-Order-clause-call : goal.returns-in_ok-marked-in-Err-Order-clause-call

@@ -1,5 +1,5 @@
 use Rattle.std.proofs.Common.{◌∙◌, ap}
-use Rattle.ob_code_law.specs.CodeMeaning.{EngineParts}
+use Rattle.ob_code_correct.specs.CodeMeaning.{EngineParts}
 use Rattle.ob_object_compile.specs.View.{asked_of, object_in}
 use Rattle.ob_object_live.proofs.Named.{begins_at}
 use Rattle.ob_object_live.proofs.asked.live_object.Goals as goal

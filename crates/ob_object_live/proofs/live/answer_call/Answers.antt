@@ -3,10 +3,10 @@ use Rattle.std.proofs.lemmas.List.{get_or_read}
 use Rattle.std.proofs.lemmas.Option.{same_Some}
 use Rattle.std.specs.Option.{SomeIff}
 use Rattle.ob_checked.specs.View.{program_of}
-use Rattle.ob_interpreter.specs.View.{effect_in, reply_of}
+use Rattle.ob_mean.specs.View.{effect_in, reply_of}
 use Rattle.ob_object_live.proofs.CallMade.{one_more}
 use Rattle.ob_object_live.specs.Living.{end_text, ground_of}
-use Rattle.ob_positions.specs.Object.{effect}
+use Rattle.ob_meaning.specs.ByPositionObject.{effect}
 use Rattle.ob_store.specs.View.{state_of}
 use Rattle.ob_text_words.specs.ScriptCalls.{object_call, script_call_of}
 use Rattle.wf_history.specs.declared.event.CallId.{CallId}

@@ -1,8 +1,8 @@
 -- An equal state and an equal order.
 use Rattle.std.proofs.Common.{◌∙◌, ap, List}
-use Rattle.ob_positions.specs.Store.{Activation}
+use Rattle.ob_meaning.specs.ByPositionStore.{Activation}
 use Rattle.wf_history.specs.declared.event.CallId.{CallId}
-use Rattle.wf_told.specs.Told.{End}
+use Rattle.wf_outcomes.specs.Told.{End}
 use Rattle.ob_object_outcomes.proofs.finding.last_state.Goals as goal
 
 abbrev end_of : Activation → List CallId → End Activation

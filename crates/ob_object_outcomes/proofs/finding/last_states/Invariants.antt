@@ -1,7 +1,7 @@
 use Rattle.std.proofs.Common.{◌≡◌, map, take}
-use Rattle.ob_object_outcomes.specs.View.{last_in}
+use Rattle.ob_object_outcomes.specs.OutcomesView.{last_in}
 use Rattle.ob_object_search.specs.Kept.{kept_in}
-use Rattle.wf_told.specs.View.{end_in}
+use Rattle.wf_outcomes.specs.View.{end_in}
 use Rattle.ob_object_outcomes.proofs.finding.last_states.Given as goal
 
 abbrev pub invariant-loop-end : goal.invariant-loop-end

@@ -4,7 +4,7 @@ use Rattle.std.proofs.Math.Logic.{∥∥₁_map}
 use Rattle.std.proofs.lemmas.Option.{MatchOption-at_none, MatchOption-at_some}
 use Rattle.ob_checked.specs.CheckedModule.{program_in}
 use Rattle.ob_interface.specs.Call.{ObjectCall, Reply}
-use Rattle.ob_object_order.specs.LegalOrder.{CallEnds}
+use Rattle.ob_object_run.specs.LegalOrder.{CallEnds}
 use Rattle.ob_object_outcomes.specs.Questions.{FailsFirst, question_call, yes}
 use Rattle.ob_object_search.specs.Kept.{kept_in}
 use Rattle.ob_store.specs.View.{state_of}

@@ -1,15 +1,15 @@
 -- With copies of the states.
 use Rattle.std.proofs.Common.{◌∙◌, List, ap, map, subst, sym}
 use Rattle.ob_checked.specs.CheckedModule.{program_in}
-use Rattle.ob_object_order.specs.LegalOrder.{CallEnds}
-use Rattle.ob_positions.specs.Store.{Activation}
+use Rattle.ob_object_run.specs.LegalOrder.{CallEnds}
+use Rattle.ob_meaning.specs.ByPositionStore.{Activation}
 use Rattle.ob_object_search.specs.Kept.{kept_in}
 use Rattle.ob_object_search.specs.declared.kept.KeptState.{KeptState}
 use Rattle.ob_store.specs.View.{state_of}
 use Rattle.wf_outcomes.specs.Explored.{calls_in}
-use Rattle.wf_told.specs.Told.{AreOutcomes, End, IsItself}
-use Rattle.wf_told.specs.View.{call_in, end_in}
-use Rattle.wf_told.specs.declared.ends.ToldEnd.{ToldEnd}
+use Rattle.wf_outcomes.specs.Told.{AreOutcomes, End, IsItself}
+use Rattle.wf_outcomes.specs.View.{call_in, end_in}
+use Rattle.wf_outcomes.specs.declared.ends.ToldEnd.{ToldEnd}
 use Rattle.ob_object_outcomes.proofs.finding.outcomes_found.Goals as goal
 
 abbrev ends_in : List (ToldEnd KeptState) → List (End Activation)

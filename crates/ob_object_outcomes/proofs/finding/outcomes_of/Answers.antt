@@ -2,10 +2,10 @@
 use Rattle.std.proofs.Common.{◌∙◌, ap, Err}
 use Rattle.std.proofs.lemmas.Result.{err_from_is_err_and, IfErr-weaker, IfOk-weaker}
 use Rattle.ob_checked.specs.CheckedModule.{program_in}
-use Rattle.ob_object_outcomes.proofs.Asked.{always_here, fails_here, many_are, no_question, placed_are}
+use Rattle.ob_object_outcomes.proofs.OutcomesAsked.{always_here, fails_here, many_are, no_question, placed_are}
 use Rattle.ob_object_outcomes.proofs.Faults.{exploring_told}
 use Rattle.ob_object_outcomes.specs.Scripted.{scripted_in}
-use Rattle.ob_object_outcomes.specs.View.{always_in, outcomes_in}
+use Rattle.ob_object_outcomes.specs.OutcomesView.{always_in, outcomes_in}
 use Rattle.ob_object_search.specs.declared.instance.ModuleObject.{ModuleObject}
 use Rattle.ob_store.specs.View.{state_of}
 use Rattle.wf_outcomes.specs.Explored.{calls_in}

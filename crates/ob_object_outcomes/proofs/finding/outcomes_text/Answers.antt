@@ -2,9 +2,9 @@
 use Rattle.std.proofs.lemmas.Result.{err_from_is_err_and}
 use Rattle.ob_object_compile.specs.View.{asked_of}
 use Rattle.ob_object_outcomes.proofs.Faults.{texts_told}
-use Rattle.ob_object_outcomes.proofs.Named.{always_all, fault_is, outcomes_are}
+use Rattle.ob_object_outcomes.proofs.OutcomesNamed.{always_all, fault_is, outcomes_are}
 use Rattle.ob_object_outcomes.specs.Scripted.{scripted_in}
-use Rattle.ob_object_outcomes.specs.View.{always_in, outcomes_in}
+use Rattle.ob_object_outcomes.specs.OutcomesView.{always_in, outcomes_in}
 use Rattle.ob_object_outcomes.proofs.finding.outcomes_text.Goals as goal
 
 pub returns-in_err-scripted-clause-fault : goal.returns-in_err-scripted-clause-fault

@@ -1,7 +1,7 @@
 -- Each call has an outcome on each state: the effect that it has there.
 use Rattle.std.proofs.Common.{refl}
-use Rattle.ob_code_law.specs.Named.{CallMeans}
-use Rattle.ob_meaning.specs.Object.{effect}
+use Rattle.ob_code_correct.specs.Named.{CallMeans}
+use Rattle.ob_meaning.specs.ByNameObject.{effect}
 use Rattle.wf_outcomes.proofs.Completing.{all_completed}
 use Rattle.ob_object_outcomes.proofs.laws.merges_are_completed.Goals as goal
 

@@ -6,7 +6,7 @@ use Rattle.ob_interface.specs.Export.{CallFits}
 use Rattle.ob_object_compile.specs.View.{asked_of, object_in}
 use Rattle.ob_object_outcomes.proofs.Fitting.{all_fit}
 use Rattle.ob_object_outcomes.specs.Scripts.{scripts_by}
-use Rattle.ob_object_sequence.proofs.Faults.{compile_refused, script_refused}
+use Rattle.ob_object_calls.proofs.Faults.{compile_refused, script_refused}
 use Rattle.ob_text_scripts.specs.Script.{IsScript, IsScriptFault}
 use Rattle.ob_text_words.specs.ScriptCalls.{ScriptCall, object_call}
 use Rattle.ob_typing.specs.Program.{Program}

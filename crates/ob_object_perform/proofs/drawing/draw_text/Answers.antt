@@ -4,8 +4,8 @@ use Rattle.ob_checked.specs.CheckedModule.{program_in}
 use Rattle.ob_interface.specs.View.{signature_of}
 use Rattle.ob_object_perform.proofs.Pictures.{drawn, range_refuses, run_refuses}
 use Rattle.ob_object_perform.specs.Texts.{texts_of}
-use Rattle.ob_object_record.specs.Record.{record_of}
-use Rattle.ob_text_picture_chart.specs.View.{moment_of}
+use Rattle.ob_text_record.specs.Record.{record_of}
+use Rattle.ob_picture_chart.specs.ChartView.{moment_of}
 use Rattle.ob_object_perform.proofs.drawing.draw_text.Goals as goal
 
 pub returns-in_err-checked-clause-refused : goal.returns-in_err-checked-clause-refused

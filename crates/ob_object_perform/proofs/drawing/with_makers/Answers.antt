@@ -4,7 +4,7 @@ use Rattle.ob_object_compile.specs.View.{object_in}
 use Rattle.ob_object_perform.proofs.Readings.{with_makers}
 use Rattle.ob_object_perform.proofs.Refusals.{run_refused}
 use Rattle.ob_object_perform.specs.Texts.{texts_of}
-use Rattle.ob_object_record.specs.Record.{record_of}
+use Rattle.ob_text_record.specs.Record.{record_of}
 use Rattle.ob_object_perform.proofs.drawing.with_makers.Goals as goal
 
 pub returns-in_err-run_with_makers-clause-refused : goal.returns-in_err-run_with_makers-clause-refused

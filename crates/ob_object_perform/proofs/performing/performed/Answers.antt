@@ -1,13 +1,13 @@
 use Rattle.std.proofs.Common.{◌≡◌, sym, subst}
 use Rattle.std.proofs.lemmas.Result.{err_from_is_err_and}
-use Rattle.ob_code_law.specs.Carried.{BegunFit}
-use Rattle.ob_code_law.specs.Compiled.{Fits}
+use Rattle.ob_code_correct.specs.Carried.{BegunFit}
+use Rattle.ob_code_correct.specs.Compiled.{Fits}
 use Rattle.ob_object_compile.specs.Compilation.{IsShort}
 use Rattle.ob_object_compile.specs.View.{object_in}
 use Rattle.ob_object_perform.proofs.Readings.{performs}
 use Rattle.ob_object_perform.proofs.Refusals.{run_refused}
 use Rattle.ob_object_perform.specs.Texts.{texts_of}
-use Rattle.ob_object_record.specs.Record.{record_of}
+use Rattle.ob_text_record.specs.Record.{record_of}
 use Rattle.ob_typing.specs.ModuleText.{IsModule}
 use Rattle.ob_typing.specs.Program.{Program}
 use Rattle.ob_object_perform.proofs.performing.performed.Goals as goal

@@ -4,11 +4,11 @@ use Rattle.ob_checked.specs.Exports.{signatures}
 use Rattle.ob_interface.specs.Export.{CallFits}
 use Rattle.ob_object_compile.specs.Compilation.{IsShort}
 use Rattle.ob_object_compile.specs.View.{object_in}
-use Rattle.ob_object_perform.proofs.Objects.{schedule_below}
+use Rattle.ob_object_perform.proofs.PerformObjects.{schedule_below}
 use Rattle.ob_object_perform.proofs.Refusals.{compile_refused, schedule_refused, script_refused}
 use Rattle.ob_object_perform.proofs.ScriptFits.{calls_fit}
 use Rattle.ob_object_perform.specs.Texts.{texts_of}
-use Rattle.ob_schedule.specs.Schedule.{process_of}
+use Rattle.ob_text_words.specs.Schedule.{process_of}
 use Rattle.ob_text_scripts.specs.Script.{IsScript, IsScriptFault}
 use Rattle.ob_text_words.specs.ScriptCalls.{ScriptCall, object_call}
 use Rattle.ob_typing.specs.Program.{Program}

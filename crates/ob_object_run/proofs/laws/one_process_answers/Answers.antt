@@ -3,15 +3,15 @@ use Rattle.std.specs.Prelude.{take}
 use Rattle.std.proofs.Math.Logic.{∥∥₁_map}
 use Rattle.ll_cell.specs.Cell.{block_of}
 use Rattle.ob_interface.specs.Call.{ObjectCall, Reply}
-use Rattle.ob_meaning.specs.Object.{replies_to}
-use Rattle.ob_code_law.specs.CodeMeaning.{code_meaning}
-use Rattle.ob_code_law.specs.Compiled.{HasReserve, IsFitting}
-use Rattle.ob_code_law.specs.Parts.{IsLawfulFor}
+use Rattle.ob_meaning.specs.ByNameObject.{replies_to}
+use Rattle.ob_code_correct.specs.CodeMeaning.{code_meaning}
+use Rattle.ob_code_correct.specs.Compiled.{HasReserve, IsFitting}
+use Rattle.ob_code_correct.specs.Parts.{IsLawfulFor}
 use Rattle.ob_object_run.proofs.Chain.{by_name, by_position}
 use Rattle.ob_object_run.proofs.Engines.{engine_in}
 use Rattle.ob_object_run.proofs.Sequential.{has_replies}
 use Rattle.ob_object_run.specs.OwnCalls.{HasReplies}
-use Rattle.wf_help.proofs.Effects.{begun_fits}
+use Rattle.wf_table.proofs.Effects.{begun_fits}
 use Rattle.wf_history.specs.History.{Event}
 use Rattle.wf_history.specs.declared.event.CallId.{CallId}
 use Rattle.wf_table.specs.Runs.{performed}

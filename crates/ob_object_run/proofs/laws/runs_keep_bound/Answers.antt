@@ -1,6 +1,6 @@
 use Rattle.std.proofs.Common.{List, ◌++◌, ◌∙◌, ap, append_assoc, sym}
-use Rattle.ob_code_law.specs.CodeMeaning.{code_meaning}
-use Rattle.ob_code_law.specs.Compiled.{IsFitting}
+use Rattle.ob_code_correct.specs.CodeMeaning.{code_meaning}
+use Rattle.ob_code_correct.specs.Compiled.{IsFitting}
 use Rattle.ob_object_run.proofs.Engines.{engine_in, reached}
 use Rattle.ob_object_run.proofs.Submissions.{acts_split, fits_first, two_pieces}
 use Rattle.wf_table.specs.Runs.{Act, performed, run, submissions, turns}

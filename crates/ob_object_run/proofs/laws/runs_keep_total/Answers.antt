@@ -1,6 +1,6 @@
 use Rattle.std.proofs.Common.{◌++◌, ◌∙◌, ap, sym}
-use Rattle.ob_code_law.specs.CodeMeaning.{code_meaning}
-use Rattle.ob_code_law.specs.Compiled.{IsFitting}
+use Rattle.ob_code_correct.specs.CodeMeaning.{code_meaning}
+use Rattle.ob_code_correct.specs.Compiled.{IsFitting}
 use Rattle.ob_object_run.proofs.Engines.{reached}
 use Rattle.ob_object_run.proofs.Submissions.{acts_split, fits_first}
 use Rattle.wf_table.specs.Runs.{performed, run, submissions, turns}

@@ -1,9 +1,9 @@
 use Rattle.std.proofs.Common.{List, ◌∙◌, subst}
 use Rattle.std.specs.Prelude.{ℤ}
 use Rattle.ob_code_engine.specs.CodeEngine.{CompiledParts}
-use Rattle.ob_code_law.specs.Compiled.{IsFitting}
-use Rattle.ob_code_layout.specs.Layout.{parts_of}
-use Rattle.ob_object_record.specs.Record.{record_of}
+use Rattle.ob_code_correct.specs.Compiled.{IsFitting}
+use Rattle.ob_layout.specs.Layout.{parts_of}
+use Rattle.ob_text_record.specs.Record.{record_of}
 use Rattle.ob_object_run.specs.Recorded.{IsLegalFor, IsMeantFor}
 use Rattle.ob_object_run.proofs.recording.record_run.Goals as goal
 

@@ -1,14 +1,14 @@
 use Rattle.std.proofs.Common.{List, sym, ap, ◌∙◌, subst}
 use Rattle.std.specs.Prelude.{None, ℤ, option_map, take}
 use Rattle.ll_cell.specs.Cell.{block_of}
-use Rattle.ob_code_law.specs.CodeMeaning.{code_meaning}
-use Rattle.ob_code_law.specs.Compiled.{HasReserve, IsFitting}
-use Rattle.ob_code_law.specs.Parts.{IsEffectOf, IsLawfulFor}
-use Rattle.ob_code_layout.specs.Layout.{parts_of}
-use Rattle.ob_object_record.specs.Record.{Record}
+use Rattle.ob_code_correct.specs.CodeMeaning.{code_meaning}
+use Rattle.ob_code_correct.specs.Compiled.{HasReserve, IsFitting}
+use Rattle.ob_code_correct.specs.Parts.{IsEffectOf, IsLawfulFor}
+use Rattle.ob_layout.specs.Layout.{parts_of}
+use Rattle.ob_text_record.specs.Record.{Record}
 use Rattle.ob_object_run.proofs.Chain.{legal_for, meant_for, never_none}
 use Rattle.ob_store.specs.View.{state_of}
-use Rattle.wf_help.proofs.Effects.{begun_fits}
+use Rattle.wf_table.proofs.Effects.{begun_fits}
 use Rattle.wf_history.specs.declared.event.CallId.{CallId}
 use Rattle.wf_history.specs.Legal.{IsLegal}
 use Rattle.ob_object_run.proofs.recording.recorded.Goals as goal

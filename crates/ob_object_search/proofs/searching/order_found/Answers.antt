@@ -1,10 +1,10 @@
 use Rattle.std.proofs.Common.{◌≡◌, ◌∙◌, List, ap, map, subst, sym}
 use Rattle.ob_checked.specs.CheckedModule.{program_in}
-use Rattle.ob_object_order.specs.LegalOrder.{CallEnds}
+use Rattle.ob_object_run.specs.LegalOrder.{CallEnds}
 use Rattle.ob_object_search.proofs.Verdicts.{legal_found, needed_named, none_named, order_named}
-use Rattle.ob_positions.specs.Store.{Activation}
+use Rattle.ob_meaning.specs.ByPositionStore.{Activation}
 use Rattle.ob_store.specs.View.{state_of}
-use Rattle.ob_text_history_reading.specs.Names.{named_id}
+use Rattle.ob_text_reading.specs.Names.{named_id}
 use Rattle.wf_history.specs.Legal.{IsLegal}
 use Rattle.wf_history.specs.declared.event.CallId.{CallId}
 use Rattle.ob_object_search.proofs.searching.order_found.Goals as goal

@@ -1,9 +1,9 @@
 use Rattle.std.proofs.Common.{subst, sym}
 use Rattle.std.proofs.lemmas.Result.{err_from_is_err_and}
 use Rattle.ob_carry.specs.View.{entries_of}
-use Rattle.ob_carry_back.specs.Told.{CarryBack}
+use Rattle.ob_carry.specs.NamedValues.{CarryBack}
 use Rattle.ob_checked.specs.CheckedModule.{program_in}
-use Rattle.ob_object_record.specs.Record.{record_of}
+use Rattle.ob_text_record.specs.Record.{record_of}
 use Rattle.ob_object_twice.proofs.GoingOn.{goes_on, meant_in_turn, second_refused}
 use Rattle.ob_object_twice.specs.Twice.{turn_of}
 use Rattle.ob_store.specs.View.{state_of}

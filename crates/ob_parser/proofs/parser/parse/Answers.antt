@@ -6,8 +6,8 @@ use Rattle.ob_grammar.specs.Conditions.{KeepsConditions}
 use Rattle.ob_grammar.specs.View.{module_of}
 use Rattle.ob_grammar.proofs.Exits.{passed_on}
 use Rattle.ob_scan.specs.Tokens.{HasTokens}
-use Rattle.ob_parser_source.specs.Listed.{Listing}
-use Rattle.ob_parser_source.proofs.Listings.{stands_first}
+use Rattle.ob_scan.specs.Listed.{Listing}
+use Rattle.ob_scan.proofs.Listings.{stands_first}
 use Rattle.ob_parser.specs.ParseFaults.{lexemes_of, IsParseFault}
 use Rattle.ob_parser.proofs.Whole.{has_text}
 use Rattle.ob_parser.proofs.parser.parse.Goals as goal

@@ -1,5 +1,5 @@
 use Rattle.std.proofs.Common.{ap, sym, ◌∙◌}
-use Rattle.ob_positions.specs.Value as Values
+use Rattle.ob_meaning.specs.ByPositionValue as Values
 use Rattle.ob_store.specs.View.{value_in, values_in}
 use Rattle.ob_store.proofs.Parts.{value_in-parts, copied_more}
 use Rattle.ob_store.proofs.value.+copies.Goals as goal

@@ -1,6 +1,6 @@
 use Rattle.std.proofs.Common.{◌≡◌, ◌++◌, List, ℕ, Option, append_assoc, subst}
-use Rattle.ob_positions.specs.Store.{Activation}
-use Rattle.ob_text_values.specs.Variables.{state_text}
+use Rattle.ob_meaning.specs.ByPositionStore.{Activation}
+use Rattle.ob_text_record.specs.Variables.{state_text}
 use Rattle.ob_text_record.specs.RecordText.{carried_text}
 use Rattle.ob_typing.specs.Program.{Program}
 use Rattle.ob_text_record.proofs.writing.write_record.Goals as goal

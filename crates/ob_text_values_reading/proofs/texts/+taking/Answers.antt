@@ -1,5 +1,5 @@
 use Rattle.std.proofs.Common.{◌∷◌, sym, subst}
-use Rattle.ob_meaning.specs.Value.{Value}
+use Rattle.ob_meaning.specs.ByNameValue.{Value}
 use Rattle.ob_carry.proofs.Rows.{named_in-elements, named_in-fields}
 use Rattle.ob_text_values_reading.proofs.Taken.{array_taken, array_within, elements_end, fields_end, no_element, no_equal, no_field, no_field_value, no_name, none_taken, not_ended, one_element_more, one_elements_rest, one_field_more, one_fields_rest, record_taken, record_within, some_fields_found}
 use Rattle.ob_text_values_reading.specs.Taking.{Ends, TakesValue}

@@ -2,7 +2,7 @@ use Rattle.std.proofs.Common.{List, drop, sym, ap, ◌∙◌, arith}
 use Rattle.std.specs.Prelude.{slice_get}
 use Rattle.ob_checked.specs.View.{table_of}
 use Rattle.ob_checked.specs.declared.program.Procedure.{Procedure}
-use Rattle.ob_code_layout.specs.Layout.{parts_of, frame_in}
+use Rattle.ob_layout.specs.Layout.{parts_of, frame_in}
 use Rattle.ob_code_scheme.specs.Types.{extent}
 use Rattle.ob_tree.proofs.Numbered.{words_few, pushed, none_pushed}
 use Rattle.ob_tree.proofs.procedures.push_procedure.Goals as goal

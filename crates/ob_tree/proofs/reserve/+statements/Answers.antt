@@ -1,8 +1,8 @@
 use Rattle.std.proofs.Common.{ap, sym, ◌∙◌}
 use Rattle.ob_typing.specs.Program.{no_branch}
-use Rattle.ob_tree_work.specs.Reserve as Counts
+use Rattle.ob_tree_law.specs.Reserve as Counts
 use Rattle.ob_checked.specs.View.{statements_in, branches_in, otherwise_of}
-use Rattle.ob_code_layout.specs.Counted.{counted}
+use Rattle.ob_layout.specs.Counted.{counted}
 use Rattle.ob_tree.proofs.Reserved.{if_counted, while_counted, repeat_counted, alone, some_choosing}
 use Rattle.ob_tree.proofs.reserve.+statements.Goals as goal
 

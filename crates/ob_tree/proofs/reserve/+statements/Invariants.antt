@@ -1,6 +1,6 @@
 use Rattle.std.proofs.Common.{◌≡◌, min, max, drop}
 use Rattle.ob_typing.specs.Program.{no_branch}
-use Rattle.ob_tree_work.specs.Reserve as Counts
+use Rattle.ob_tree_law.specs.Reserve as Counts
 use Rattle.ob_checked.specs.View.{statements_in, branches_in}
 use Rattle.ob_tree.proofs.reserve.+statements.Given as goal
 

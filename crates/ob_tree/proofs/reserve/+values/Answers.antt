@@ -1,5 +1,5 @@
 use Rattle.std.proofs.Common.{ap, ◌∙◌}
-use Rattle.ob_tree_work.specs.Reserve as Counts
+use Rattle.ob_tree_law.specs.Reserve as Counts
 use Rattle.ob_checked.specs.View.{expression_of}
 use Rattle.ob_checked.proofs.Rows.{expression_of-value}
 use Rattle.ob_tree.proofs.Reserved.{plus_counted, chain_counted}

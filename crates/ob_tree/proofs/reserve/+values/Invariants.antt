@@ -1,5 +1,5 @@
 use Rattle.std.proofs.Common.{◌≡◌, ◌≤◌, min, max, drop}
-use Rattle.ob_tree_work.specs.Reserve as Counts
+use Rattle.ob_tree_law.specs.Reserve as Counts
 use Rattle.ob_checked.specs.View.{operations_in, selectors_in, designator_of}
 use Rattle.ob_tree.proofs.reserve.+values.Given as goal
 

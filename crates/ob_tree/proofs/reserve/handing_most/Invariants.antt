@@ -1,5 +1,5 @@
 use Rattle.std.proofs.Common.{◌≡◌, min, max, map, drop}
-use Rattle.ob_tree_work.specs.Reserve as Counts
+use Rattle.ob_tree_law.specs.Reserve as Counts
 use Rattle.ob_checked.specs.View.{actual_of}
 use Rattle.ob_tree.proofs.reserve.handing_most.Given as goal
 

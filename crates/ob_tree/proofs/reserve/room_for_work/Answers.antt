@@ -1,10 +1,10 @@
 use Rattle.std.proofs.Common.{◌+◌, ◌*◌, map, ap, ◌∙◌}
 use Rattle.ob_checked.specs.CheckedModule.{program_in}
 use Rattle.ob_checked.specs.View.{procedure_of, table_of}
-use Rattle.ob_code_layout.specs.Counted.{counted}
+use Rattle.ob_layout.specs.Counted.{counted}
 use Rattle.ob_tree.proofs.Known.{counted_tasks}
 use Rattle.ob_tree_law.specs.TreeEngine.{work_room}
-use Rattle.ob_tree_work.specs.Reserve.{activation_most}
+use Rattle.ob_tree_law.specs.Reserve.{activation_most}
 use Rattle.ob_typing.specs.Program.{Program}
 use Rattle.ob_tree.proofs.reserve.room_for_work.Goals as goal
 

@@ -1,5 +1,5 @@
 use Rattle.std.proofs.Common.{sym, ◌∙◌}
-use Rattle.ob_code_layout.specs.Layout.{block_in}
+use Rattle.ob_layout.specs.Layout.{block_in}
 use Rattle.ob_tree.proofs.Settling.{settled_so}
 use Rattle.ob_tree.proofs.settle.settle.Goals as goal
 

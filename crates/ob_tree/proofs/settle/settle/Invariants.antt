@@ -1,6 +1,6 @@
 use Rattle.std.proofs.Common.{◌≡◌}
-use Rattle.ob_code_layout.specs.Layout.{block_in}
-use Rattle.ob_tree_work.specs.Work.{opened, work_nodes}
+use Rattle.ob_layout.specs.Layout.{block_in}
+use Rattle.ob_tree_law.specs.Work.{opened, work_nodes}
 use Rattle.ob_tree_tasks.specs.Opening.{CanBeOpened}
 use Rattle.ob_tree.proofs.settle.settle.Given as goal
 

@@ -1,7 +1,7 @@
 use Rattle.std.proofs.Common.{◌∷◌, refl, ap, sym, ◌∙◌, subst}
 use Rattle.ob_checked.specs.View.{expression_of, selectors_in}
-use Rattle.ob_code_layout.specs.Layout.{block_in}
-use Rattle.ob_tree_work.specs.Work.{Selecting, Value, selecting_parts}
+use Rattle.ob_layout.specs.Layout.{block_in}
+use Rattle.ob_tree_law.specs.Work.{Selecting, Value, selecting_parts}
 use Rattle.ob_tree_tasks.specs.Opening.{IsSmallSelector}
 use Rattle.ob_tree_tasks.specs.Scoped.{own_in, type_in}
 use Rattle.ob_tree_tasks.specs.WorkTasks.{before, with_first}

@@ -1,7 +1,7 @@
 use Rattle.std.proofs.Common.{refl}
 use Rattle.ob_checked.specs.View.{expression_of}
-use Rattle.ob_code_layout.specs.Layout.{block_in}
-use Rattle.ob_tree_work.specs.Work.{Value, value_parts}
+use Rattle.ob_layout.specs.Layout.{block_in}
+use Rattle.ob_tree_law.specs.Work.{Value, value_parts}
 use Rattle.ob_tree_tasks.specs.Scoped.{own_in}
 use Rattle.ob_tree_tasks.proofs.Giving.{first_fits, by_parts, stays, leads, leads_on}
 use Rattle.ob_tree_tasks.proofs.expressions.open_value.Goals as goal

@@ -1,6 +1,6 @@
 use Rattle.ob_checked.specs.View.{expression_of}
-use Rattle.ob_code_layout.specs.Layout.{block_in}
-use Rattle.ob_tree_work.specs.Work.{Value, work_nodes}
+use Rattle.ob_layout.specs.Layout.{block_in}
+use Rattle.ob_tree_law.specs.Work.{Value, work_nodes}
 use Rattle.ob_tree_tasks.specs.Scoped.{own_in}
 use Rattle.ob_tree_tasks.specs.WorkTasks.{with_first}
 use Rattle.ob_tree_tasks.proofs.Giving.{Leads}

@@ -1,4 +1,4 @@
-use Rattle.ob_code_layout.specs.Layout.{block_in}
+use Rattle.ob_layout.specs.Layout.{block_in}
 use Rattle.ob_tree_tasks.specs.Tasks.{task_of}
 use Rattle.ob_tree_tasks.proofs.Giving.{room_behind}
 use Rattle.ob_tree_tasks.proofs.opening.open.Goals as goal

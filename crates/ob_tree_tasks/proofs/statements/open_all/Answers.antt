@@ -1,7 +1,7 @@
 use Rattle.std.proofs.Common.{refl, ap, sym}
 use Rattle.ob_checked.specs.View.{statement_of, statements_in}
-use Rattle.ob_code_layout.specs.Layout.{block_in}
-use Rattle.ob_tree_work.specs.Work.{All, Doing, all_parts}
+use Rattle.ob_layout.specs.Layout.{block_in}
+use Rattle.ob_tree_law.specs.Work.{All, Doing, all_parts}
 use Rattle.ob_tree_tasks.specs.Scoped.{own_in}
 use Rattle.ob_tree_tasks.specs.WorkTasks.{before, with_first}
 use Rattle.ob_tree_tasks.proofs.Giving.{first_fits, by_parts, then_gives}

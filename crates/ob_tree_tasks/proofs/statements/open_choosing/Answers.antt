@@ -1,7 +1,7 @@
 use Rattle.std.proofs.Common.{refl}
 use Rattle.ob_checked.specs.View.{branches_in, expression_of, otherwise_of}
-use Rattle.ob_code_layout.specs.Layout.{block_in}
-use Rattle.ob_tree_work.specs.Work.{Choosing, Value, choosing_parts}
+use Rattle.ob_layout.specs.Layout.{block_in}
+use Rattle.ob_tree_law.specs.Work.{Choosing, Value, choosing_parts}
 use Rattle.ob_tree_tasks.specs.Scoped.{own_in}
 use Rattle.ob_tree_tasks.specs.WorkTasks.{with_first}
 use Rattle.ob_tree_tasks.proofs.Giving.{first_fits, by_parts, then_gives}

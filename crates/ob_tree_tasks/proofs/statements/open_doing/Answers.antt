@@ -1,7 +1,7 @@
 use Rattle.std.proofs.Common.{map, refl, sym, subst, arith}
 use Rattle.ob_checked.specs.View.{actual_of, branches_in, designator_of, otherwise_of, statement_of}
-use Rattle.ob_code_layout.specs.Layout.{block_in}
-use Rattle.ob_tree_work.specs.Work.{Doing, Address, Handing, Choosing, doing_parts, address_parts}
+use Rattle.ob_layout.specs.Layout.{block_in}
+use Rattle.ob_tree_law.specs.Work.{Doing, Address, Handing, Choosing, doing_parts, address_parts}
 use Rattle.ob_tree_tasks.specs.Opening.{CanBeOpened, GivesWay}
 use Rattle.ob_tree_tasks.specs.Scoped.{own_in}
 use Rattle.ob_tree_tasks.specs.WorkTasks.{with_first}

@@ -1,8 +1,8 @@
 use Rattle.std.proofs.Common.{refl}
 use Rattle.ob_typing.specs.Program as Program
 use Rattle.ob_checked.specs.View.{expression_of, statements_in}
-use Rattle.ob_code_layout.specs.Layout.{block_in}
-use Rattle.ob_tree_work.specs.Work.{Doing, doing_parts}
+use Rattle.ob_layout.specs.Layout.{block_in}
+use Rattle.ob_tree_law.specs.Work.{Doing, doing_parts}
 use Rattle.ob_tree_tasks.specs.Scoped.{own_in}
 use Rattle.ob_tree_tasks.proofs.Giving.{by_parts}
 use Rattle.ob_tree_tasks.proofs.Pushed.{four}

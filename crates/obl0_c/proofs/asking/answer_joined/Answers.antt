@@ -1,5 +1,5 @@
 use Rattle.std.proofs.Common.{ℕ, Bor, List, map, subst, sym}
-use Rattle.ob_handed.specs.Texts.{AreTexts}
+use Rattle.ob_answer_files.specs.Texts.{AreTexts}
 use Rattle.obl0_c.proofs.Answered.{joined_answered}
 use Rattle.obl0_c.proofs.asking.answer_joined.Goals as goal
 

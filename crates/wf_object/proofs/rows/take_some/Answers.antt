@@ -2,8 +2,8 @@ use Rattle.std.proofs.Common.{◌≡◌, ◌+◌, ap, refl, sym, subst, ◌∙�
 use Rattle.wf_table.specs.declared.process.Label.{Label}
 use Rattle.wf_table.specs.declared.process.Label.TheVariants.{Try, Link, Store, Check1, Mine, Seen, Fetch, Check2, Save, Enter, Body, Undo, Keep}
 use Rattle.wf_table.specs.Table.{cell_after, check, row}
-use Rattle.wf_bound.specs.declared.spent.Spent.{Spent}
-use Rattle.wf_bound.specs.Spent.{has_more, spent_after}
+use Rattle.wf_table.specs.declared.spent.Spent.{Spent}
+use Rattle.wf_table.specs.Spent.{has_more, spent_after}
 use Rattle.wf_object.specs.Progress.{outside_more, progress}
 use Rattle.wf_object.specs.Quiet.{is_unmarked}
 use Rattle.wf_object.proofs.Progressing.{in_body, one_unmarked, outside_next, plain_row, plain_row_unmarked, room_of_bodies, same_progress}

@@ -5,7 +5,7 @@ use Rattle.wf_history.specs.View.{kept_call}
 use Rattle.wf_history.specs.History.{Event, IsHistory}
 use Rattle.wf_table.specs.Table.{Process}
 use Rattle.wf_table.specs.Object.{history_after}
-use Rattle.wf_calls.specs.CallsKept.{no_call}
+use Rattle.wf_records.specs.CallsKept.{no_call}
 use Rattle.wf_object.proofs.Scripts.{began_is}
 use Rattle.wf_object.proofs.seen.begin.Goals as goal
 

@@ -1,5 +1,5 @@
 use Rattle.std.proofs.Common.{refl}
-use Rattle.wf_bound.specs.Bound.{bound}
+use Rattle.wf_table.specs.Bound.{bound}
 use Rattle.wf_object.proofs.spent.bound_of.Goals as goal
 
 pub returns : goal.returns

@@ -4,7 +4,7 @@ use Rattle.std.proofs.lemmas.List.{length-map}
 use Rattle.wf_history.specs.View.{kept_call}
 use Rattle.wf_outcomes.specs.declared.seen.Stated.{Stated}
 use Rattle.wf_outcomes.specs.Made.{IsStated}
-use Rattle.wf_outcomes.proofs.Lists.{same_configuration}
+use Rattle.wf_outcomes.proofs.OutcomesLists.{same_configuration}
 use Rattle.wf_outcomes.proofs.exploring.start_of.Goals as goal
 
 pub returns-clause-start : goal.returns-clause-start

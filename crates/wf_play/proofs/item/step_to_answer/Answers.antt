@@ -1,5 +1,5 @@
 use Rattle.std.proofs.Common.{rules, ap, arith}
-use Rattle.ob_schedule.specs.declared.item.Item.TheVariants as Items
+use Rattle.ob_text_words.specs.declared.item.Item.TheVariants as Items
 use Rattle.wf_table.specs.Object.{answer_of}
 use Rattle.wf_table.specs.Schedule.{steps_of}
 use Rattle.wf_play.proofs.Ends.{answered, goes_on, halted, is_reply, more_behind, no_reply, one_more, one_turn_more, played_by, same_quiet, same_seen, same_step, same_steps, silent, still_same, still_silent, turns_behind, unanswered}

@@ -1,5 +1,5 @@
 use Rattle.std.proofs.Common.{◌≡◌, ℕ, ◌-◌, ◌<◌, ◌≤◌, ◌++◌, replicate}
-use Rattle.ob_schedule.specs.declared.item.Item.TheVariants as Items
+use Rattle.ob_text_words.specs.declared.item.Item.TheVariants as Items
 use Rattle.wf_object.specs.InARow.{after_steps}
 use Rattle.wf_play.specs.ItemSteps.{EndsWithAnswer, IsAtEnd}
 use Rattle.wf_play.specs.Played.{IsSameObject}

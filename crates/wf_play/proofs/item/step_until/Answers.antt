@@ -1,5 +1,5 @@
 use Rattle.std.proofs.Common.{ap, arith}
-use Rattle.ob_schedule.specs.declared.item.Item.TheVariants as Items
+use Rattle.ob_text_words.specs.declared.item.Item.TheVariants as Items
 use Rattle.wf_table.specs.Schedule.{steps_of}
 use Rattle.wf_play.proofs.Ends.{elsewhere, goes_on, more_behind, one_more, played_by, quiet_inside, same_inside, same_object, same_step, same_steps, still_same, there, turns_behind}
 use Rattle.wf_play.proofs.item.step_until.Goals as goal

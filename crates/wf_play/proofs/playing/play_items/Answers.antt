@@ -1,6 +1,6 @@
 use Rattle.std.proofs.Common.{rules, get_or}
 use Rattle.std.proofs.lemmas.Option.{slice_get-get_or}
-use Rattle.ob_schedule.specs.declared.item.Item.TheVariants as Items
+use Rattle.ob_text_words.specs.declared.item.Item.TheVariants as Items
 use Rattle.wf_play.specs.ItemSteps.{IsBeyond, IsItemRun}
 use Rattle.wf_play.proofs.Plays.{played_none, played_more, first_beyond, of_same}
 use Rattle.wf_play.proofs.playing.play_items.Goals as goal

@@ -2,7 +2,7 @@ use Rattle.std.proofs.Common.{List, arith, subst}
 use Rattle.std.proofs.lemmas.List.Elements.{recursion_from_All}
 use Rattle.wf_history.specs.declared.event.CallId.{CallId}
 use Rattle.wf_table.specs.Below.{IdBelow}
-use Rattle.wf_table.proofs.Runs.{run_sound}
+use Rattle.wf_table.proofs.TableRuns.{run_sound}
 use Rattle.wf_theorems.specs.FirstCalls.{AreFirstCalls, submitted}
 use Rattle.wf_theorems.proofs.FirstOnes.{all_own, first_calls}
 use Rattle.wf_theorems.proofs.alone.process_alone.Goals as goal

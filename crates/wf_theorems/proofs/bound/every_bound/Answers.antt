@@ -1,11 +1,11 @@
 use Rattle.std.proofs.Common.{List, refl}
 use Rattle.wf_table.specs.Start.{sizes_of}
 use Rattle.wf_table.specs.Runs.{Act, ActsFit, run}
-use Rattle.wf_bound.specs.Counted.{counted_from}
-use Rattle.wf_bound.proofs.Limits.{run_sum_bodies}
-use Rattle.wf_bound.proofs.Rounds.{run_in_rounds}
-use Rattle.wf_bound.proofs.Runs.{run_within, same_run}
-use Rattle.wf_bound.proofs.Sums.{bound_is}
+use Rattle.wf_table.specs.Counted.{counted_from}
+use Rattle.wf_table.proofs.Limits.{run_sum_bodies}
+use Rattle.wf_table.proofs.Rounds.{run_in_rounds}
+use Rattle.wf_table.proofs.BoundRuns.{run_within, same_run}
+use Rattle.wf_table.proofs.Sums.{bound_is}
 use Rattle.wf_theorems.proofs.bound.every_bound.Goals as goal
 
 pub returns-clause-bound : goal.returns-clause-bound

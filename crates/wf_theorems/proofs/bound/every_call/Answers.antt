@@ -1,9 +1,9 @@
 use Rattle.std.proofs.Common.{◌++◌, sym, subst}
 use Rattle.wf_table.specs.Start.{sizes_of}
-use Rattle.wf_bound.specs.declared.spent.Spent.{Spent}
-use Rattle.wf_bound.specs.Bound.{IsWithinBound}
-use Rattle.wf_bound.specs.Limit.{IsWithinLimit}
-use Rattle.wf_bound.proofs.Calls.{call_is_counted, stands_last}
+use Rattle.wf_table.specs.declared.spent.Spent.{Spent}
+use Rattle.wf_table.specs.Bound.{IsWithinBound}
+use Rattle.wf_table.specs.Limit.{IsWithinLimit}
+use Rattle.wf_table.proofs.Calls.{call_is_counted, stands_last}
 use Rattle.wf_theorems.proofs.bound.every_call.Goals as goal
 
 pub returns-clause-counted : goal.returns-clause-counted

@@ -1,6 +1,6 @@
 use Rattle.wf_table.specs.Start.{sizes_of}
-use Rattle.wf_bound.proofs.BodyEnds.{body_goes_on}
-use Rattle.wf_bound.proofs.Limits.{run_limited}
+use Rattle.wf_table.proofs.BodyEnds.{body_goes_on}
+use Rattle.wf_table.proofs.Limits.{run_limited}
 use Rattle.wf_theorems.proofs.bound.every_limit.Goals as goal
 
 pub returns-clause-limit : goal.returns-clause-limit

@@ -1,4 +1,4 @@
-use Rattle.wf_bound.proofs.Lowers.{outside_lowers, inside_leaves_at}
+use Rattle.wf_table.proofs.Lowers.{outside_lowers, inside_leaves_at}
 use Rattle.wf_theorems.proofs.bound.every_step.Goals as goal
 
 pub returns-clause-outside : goal.returns-clause-outside

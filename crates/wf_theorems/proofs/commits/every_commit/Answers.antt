@@ -1,4 +1,4 @@
-use Rattle.wf_commits.proofs.Runs.{run_committed}
+use Rattle.wf_table.proofs.CommitsRuns.{run_committed}
 use Rattle.wf_theorems.proofs.commits.every_commit.Goals as goal
 
 pub returns : goal.returns

@@ -1,5 +1,5 @@
-use Rattle.wf_commits.proofs.Laws.{order_once, announced_below}
-use Rattle.wf_commits.proofs.Timed.{never_before}
+use Rattle.wf_table.proofs.CommitsLaws.{order_once, announced_below}
+use Rattle.wf_table.proofs.Timed.{never_before}
 use Rattle.wf_theorems.proofs.commits.one_order.Goals as goal
 
 pub returns-clause-once : goal.returns-clause-once

@@ -1,7 +1,7 @@
 use Rattle.std.proofs.Common.{refl, inl, inr}
 use Rattle.std.specs.Prelude.{slice_get}
-use Rattle.wf_commits.proofs.Runs.{founded}
-use Rattle.wf_commits.proofs.Laws.{exchange_gives, announced, after_two, two_lost}
+use Rattle.wf_table.proofs.CommitsRuns.{founded}
+use Rattle.wf_table.proofs.CommitsLaws.{exchange_gives, announced, after_two, two_lost}
 use Rattle.wf_theorems.proofs.commits.second_commit.Goals as goal
 
 pub returns-clause-own : goal.returns-clause-own

@@ -1,4 +1,4 @@
-use Rattle.wf_help.proofs.Runs.{run_helped}
+use Rattle.wf_table.proofs.HelpRuns.{run_helped}
 use Rattle.wf_theorems.proofs.help.every_help.Goals as goal
 
 pub returns : goal.returns

@@ -1,4 +1,4 @@
-use Rattle.wf_help.proofs.Laws.{serves_open, makes_another}
+use Rattle.wf_table.proofs.HelpLaws.{serves_open, makes_another}
 use Rattle.wf_theorems.proofs.help.help.Goals as goal
 
 pub returns-clause-whole : goal.returns-clause-whole

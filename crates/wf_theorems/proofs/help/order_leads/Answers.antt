@@ -1,7 +1,7 @@
 use Rattle.wf_table.specs.Start.{sizes_of}
-use Rattle.wf_table.proofs.Runs.{run_sound}
-use Rattle.wf_help.proofs.Runs.{run_helped}
-use Rattle.wf_help.proofs.Effects.{leads}
+use Rattle.wf_table.proofs.TableRuns.{run_sound}
+use Rattle.wf_table.proofs.HelpRuns.{run_helped}
+use Rattle.wf_table.proofs.Effects.{leads}
 use Rattle.wf_theorems.proofs.help.order_leads.Goals as goal
 
 pub returns : goal.returns

@@ -1,5 +1,5 @@
-use Rattle.wf_commits.proofs.Runs.{run_committed}
-use Rattle.wf_help.proofs.Runs.{run_helped}
+use Rattle.wf_table.proofs.CommitsRuns.{run_committed}
+use Rattle.wf_table.proofs.HelpRuns.{run_helped}
 use Rattle.wf_theorems.proofs.help.root.Goals as goal
 
 pub returns-clause-holds : goal.returns-clause-holds

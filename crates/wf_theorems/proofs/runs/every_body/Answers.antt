@@ -1,4 +1,4 @@
-use Rattle.wf_table.proofs.Bodies.{functional}
+use Rattle.wf_table.proofs.TableBodies.{functional}
 use Rattle.wf_theorems.proofs.runs.every_body.Goals as goal
 
 pub returns-clause-returns : goal.returns-clause-returns

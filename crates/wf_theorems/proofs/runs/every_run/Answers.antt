@@ -1,4 +1,4 @@
-use Rattle.wf_table.proofs.Runs.{run_sound}
+use Rattle.wf_table.proofs.TableRuns.{run_sound}
 use Rattle.wf_theorems.proofs.runs.every_run.Goals as goal
 
 pub returns : goal.returns

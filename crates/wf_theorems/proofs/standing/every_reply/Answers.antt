@@ -1,4 +1,4 @@
-use Rattle.wf_standing.proofs.Runs.{run_standing}
+use Rattle.wf_table.proofs.StandingRuns.{run_standing}
 use Rattle.wf_theorems.proofs.standing.every_reply.Goals as goal
 
 pub returns : goal.returns

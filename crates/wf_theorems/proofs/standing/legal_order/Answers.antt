@@ -1,4 +1,4 @@
-use Rattle.wf_standing.proofs.Legal.{run_legal}
+use Rattle.wf_table.proofs.Legal.{run_legal}
 use Rattle.wf_theorems.proofs.standing.legal_order.Goals as goal
 
 pub returns : goal.returns

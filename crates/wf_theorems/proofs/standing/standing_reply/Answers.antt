@@ -1,12 +1,12 @@
 use Rattle.std.proofs.Common.{◌<◌, sym, subst}
 use Rattle.wf_table.specs.declared.process.Label.{Label}
-use Rattle.wf_commits.specs.Commits.{announced_call}
-use Rattle.wf_commits.proofs.Runs.{founded}
-use Rattle.wf_standing.specs.Stands.{words_taken}
-use Rattle.wf_standing.proofs.Since.{from_order}
-use Rattle.wf_standing.proofs.Keeps.{told}
-use Rattle.wf_standing.proofs.Laws.{standing_reply}
-use Rattle.wf_standing.proofs.Answered.{call_words}
+use Rattle.wf_table.specs.Commits.{announced_call}
+use Rattle.wf_table.proofs.CommitsRuns.{founded}
+use Rattle.wf_table.specs.Stands.{words_taken}
+use Rattle.wf_table.proofs.Since.{from_order}
+use Rattle.wf_table.proofs.Keeps.{told}
+use Rattle.wf_table.proofs.StandingLaws.{standing_reply}
+use Rattle.wf_table.proofs.Answered.{call_words}
 use Rattle.wf_theorems.proofs.standing.standing_reply.Goals as goal
 
 pub returns-clause-stands : goal.returns-clause-stands

@@ -4,7 +4,7 @@ use Rattle.std.proofs.Math.Logic.{∥∥₁_map}
 use Rattle.std.proofs.lemmas.Option.{MatchOption-at_none, MatchOption-at_some}
 use Rattle.ob_interface.specs.View.{reply_of}
 use Rattle.wf_history.specs.View.{kept_reply}
-use Rattle.wf_layers.proofs.Advancing.{goes_nowhere}
+use Rattle.wf_whole_outcomes.proofs.Advancing.{goes_nowhere}
 use Rattle.wf_whole_outcomes.proofs.graph.edge_of.Goals as goal
 
 pub returns-in_default-clause-edge : goal.returns-in_default-clause-edge

@@ -7,7 +7,7 @@ use Rattle.std.proofs.lemmas.Option.{slice_get_within}
 use Rattle.ob_interface.specs.View.{reply_of}
 use Rattle.wf_history.proofs.Positions.{place_of}
 use Rattle.wf_history.specs.View.{kept_reply}
-use Rattle.wf_outcomes.proofs.Lists.{item_here, item_at}
+use Rattle.wf_outcomes.proofs.OutcomesLists.{item_here, item_at}
 use Rattle.wf_whole_outcomes.proofs.graph.number_in.Goals as goal
 
 pub returns-then-same_reply : goal.returns-then-same_reply

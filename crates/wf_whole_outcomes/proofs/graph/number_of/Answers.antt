@@ -6,7 +6,7 @@ use Rattle.ob_interface.specs.Call.{Reply}
 use Rattle.ob_interface.specs.View.{reply_of}
 use Rattle.wf_history.specs.View.{kept_reply}
 use Rattle.wf_history.specs.declared.kept.KeptReply.{KeptReply}
-use Rattle.wf_layers.proofs.Advancing.{goes_nowhere}
+use Rattle.wf_whole_outcomes.proofs.Advancing.{goes_nowhere}
 use Rattle.wf_whole_outcomes.proofs.Numbering.{one_here, one_more_apart, one_more_on}
 use Rattle.wf_whole_outcomes.proofs.graph.number_of.Goals as goal
 

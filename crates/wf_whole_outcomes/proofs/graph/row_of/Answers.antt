@@ -3,7 +3,7 @@ use Rattle.std.proofs.Common.{◌∙◌, ◌∷◌, [], ap, arith, length, map}
 use Rattle.std.proofs.Math.Logic.{∥∥₁_elim, ∥∥₁_map, ∥∥₁_prop}
 use Rattle.std.proofs.lemmas.List.{length-append}
 use Rattle.wf_history.specs.View.{kept_reply}
-use Rattle.wf_layers.proofs.Advancing.{goes_both}
+use Rattle.wf_whole_outcomes.proofs.Advancing.{goes_both}
 use Rattle.wf_outcomes.specs.Explored.{all_kept, calls_in}
 use Rattle.wf_whole_outcomes.proofs.Graphing.{row_push}
 use Rattle.wf_whole_outcomes.proofs.graph.row_of.Goals as goal

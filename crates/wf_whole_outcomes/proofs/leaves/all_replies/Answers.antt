@@ -7,8 +7,8 @@ use Rattle.std.specs.List.{slice_get}
 use Rattle.smallvec.specs.SmallVec.{SmallVec}
 use Rattle.wf_history.specs.View.{kept_reply}
 use Rattle.wf_history.specs.declared.kept.KeptReply.{KeptReply}
-use Rattle.wf_layers.specs.Nodes.{lists_in}
-use Rattle.wf_layers.proofs.Listing.{in_map}
+use Rattle.wf_whole_outcomes.specs.Nodes.{lists_in}
+use Rattle.wf_whole_outcomes.proofs.Listing.{in_map}
 use Rattle.wf_whole_outcomes.specs.Leaves.{said_in}
 use Rattle.wf_whole_outcomes.specs.View.{replies_in}
 use Rattle.wf_whole_outcomes.proofs.Reading.{both_more}

@@ -2,7 +2,7 @@
 use Rattle.std.proofs.Common.{◌≡◌, map, take, Some}
 use Rattle.std.specs.List.{slice_get}
 use Rattle.wf_history.specs.View.{kept_reply}
-use Rattle.wf_layers.specs.Nodes.{lists_in}
+use Rattle.wf_whole_outcomes.specs.Nodes.{lists_in}
 use Rattle.wf_whole_outcomes.specs.Leaves.{said_in}
 use Rattle.wf_whole_outcomes.specs.View.{replies_in}
 use Rattle.wf_whole_outcomes.proofs.leaves.all_replies.Given as goal

@@ -3,12 +3,12 @@ use Rattle.std.proofs.Common.{◌≡◌, ◌∙◌, ◌<◌, ap, subst, sym, ℕ
 use Rattle.std.specs.List.{slice_get}
 use Rattle.wf_history.specs.View.{kept_reply}
 use Rattle.wf_history.specs.declared.kept.KeptReply.{KeptReply}
-use Rattle.wf_layers.specs.Graph.{IsNarrow, rows_in}
-use Rattle.wf_layers.specs.Nodes.{IsFront, lists_in, spot_in}
-use Rattle.wf_layers.specs.declared.edges.Edge.{Edge}
-use Rattle.wf_layers.proofs.Listing.{in_map}
+use Rattle.wf_whole_outcomes.specs.LayersGraph.{IsNarrow, rows_in}
+use Rattle.wf_whole_outcomes.specs.Nodes.{IsFront, lists_in, spot_in}
+use Rattle.wf_whole_outcomes.specs.declared.edges.Edge.{Edge}
+use Rattle.wf_whole_outcomes.proofs.Listing.{in_map}
 use Rattle.wf_outcomes.specs.Explored.{all_kept}
-use Rattle.wf_told.proofs.Telling.{state_there}
+use Rattle.wf_outcomes.proofs.Telling.{state_there}
 use Rattle.wf_whole_outcomes.specs.Leaves.{said_in}
 use Rattle.wf_whole_outcomes.proofs.Reading.{node_at, tellable_at}
 use Rattle.wf_whole_outcomes.proofs.leaves.leaf_told.Goals as goal

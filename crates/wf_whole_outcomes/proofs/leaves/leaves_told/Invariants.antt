@@ -1,8 +1,8 @@
 -- The leaves so far.
 use Rattle.std.proofs.Common.{[], ◌∷◌, length, map}
 use Rattle.wf_history.specs.View.{kept_reply}
-use Rattle.wf_layers.specs.Layers.{ways_of}
-use Rattle.wf_layers.specs.Nodes.{lists_in, spots_in, trail_in}
+use Rattle.wf_whole_outcomes.specs.Layers.{ways_of}
+use Rattle.wf_whole_outcomes.specs.Nodes.{lists_in, spots_in, trail_in}
 use Rattle.wf_outcomes.specs.Explored.{all_kept}
 use Rattle.wf_whole_outcomes.proofs.Reading.{AreTold}
 use Rattle.wf_whole_outcomes.specs.View.{whole_in}

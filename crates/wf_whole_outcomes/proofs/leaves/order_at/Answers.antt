@@ -1,9 +1,9 @@
 -- By the way to the node, turned round.
 use Rattle.std.proofs.Common.{◌≡◌, ◌∙◌, ◌<◌, ◌∷◌, [], ℕ, List, All, IfOk, Vec, Global, ap, get_or, length, replicate, subst, sym}
-use Rattle.wf_layers.specs.Graph.{rows_in}
-use Rattle.wf_layers.specs.Layers.{IsLinked, ways_of}
-use Rattle.wf_layers.specs.Nodes.{trail_in}
-use Rattle.wf_layers.specs.declared.growing.Came.{Came}
+use Rattle.wf_whole_outcomes.specs.LayersGraph.{rows_in}
+use Rattle.wf_whole_outcomes.specs.Layers.{IsLinked, ways_of}
+use Rattle.wf_whole_outcomes.specs.Nodes.{trail_in}
+use Rattle.wf_whole_outcomes.specs.declared.growing.Came.{Came}
 use Rattle.wf_whole_outcomes.specs.Leaves.{named}
 use Rattle.wf_whole_outcomes.proofs.Reading.{way_own, way_there}
 use Rattle.wf_whole_outcomes.proofs.leaves.order_at.Goals as goal

@@ -3,7 +3,7 @@ use Rattle.std.proofs.Common.{◌∙◌, ◌∷◌, [], ap, sym, Some, get_or, m
 use Rattle.std.proofs.lemmas.List.{map-append}
 use Rattle.std.specs.List.{slice_get}
 use Rattle.wf_history.specs.View.{kept_reply}
-use Rattle.wf_outcomes.proofs.Lists.{item_here}
+use Rattle.wf_outcomes.proofs.OutcomesLists.{item_here}
 use Rattle.wf_whole_outcomes.proofs.Reading.{both_more}
 use Rattle.wf_whole_outcomes.proofs.leaves.replies_of.Goals as goal
 

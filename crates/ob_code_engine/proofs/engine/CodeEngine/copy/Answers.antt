@@ -1,6 +1,6 @@
 use Rattle.std.proofs.Common.{◌≡◌, refl, sym, ap, ◌∙◌, subst}
-use Rattle.ob_code_law.specs.CodeMeaning.{EngineParts, most, result_count, value_count}
-use Rattle.ob_code_law.specs.Parts.{HasProgram}
+use Rattle.ob_code_correct.specs.CodeMeaning.{EngineParts, most, result_count, value_count}
+use Rattle.ob_code_correct.specs.Parts.{HasProgram}
 use Rattle.ob_code_engine.specs.CodeEngine.{compiled_same}
 use Rattle.ob_code_engine.proofs.Made.{made, same_parts}
 use Rattle.ob_code_engine.proofs.engine.CodeEngine.copy.Goals as goal

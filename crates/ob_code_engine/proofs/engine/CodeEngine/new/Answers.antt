@@ -1,11 +1,11 @@
 use Rattle.std.proofs.Common.{◌≡◌, ap, ◌∙◌, arith}
 use Rattle.ob_typing.specs.Program.{Program}
 use Rattle.ob_checked.specs.CheckedModule.{program_in}
-use Rattle.ob_code_layout.specs.Layout.{LayoutParts}
+use Rattle.ob_layout.specs.Layout.{LayoutParts}
 use Rattle.ob_code_scheme.specs.Layout.{variable_words}
 use Rattle.ob_code_scheme.specs.Temporaries.{stack_words}
-use Rattle.ob_code_law.specs.CodeMeaning.{EngineParts, most, result_count, value_count}
-use Rattle.ob_code_law.specs.Compiled.{entrances_from, parts_of}
+use Rattle.ob_code_correct.specs.CodeMeaning.{EngineParts, most, result_count, value_count}
+use Rattle.ob_code_correct.specs.Compiled.{entrances_from, parts_of}
 use Rattle.ob_code_engine.proofs.Made.{made, parts_are, compiled_to, has_program, few_in_stack, counted_stack}
 use Rattle.ob_code_engine.proofs.engine.CodeEngine.new.Goals as goal
 

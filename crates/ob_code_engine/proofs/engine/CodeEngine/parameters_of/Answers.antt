@@ -1,6 +1,6 @@
 use Rattle.std.proofs.Common.{List, length, Option, sym, ap, ◌∙◌, arith}
 use Rattle.ob_interface.specs.declared.export.Formal.{Formal}
-use Rattle.ob_code_law.specs.CodeMeaning.{Entrance, parameters_of}
+use Rattle.ob_code_correct.specs.CodeMeaning.{Entrance, parameters_of}
 use Rattle.ob_code_engine.proofs.Exports.{few}
 use Rattle.ob_code_engine.proofs.engine.CodeEngine.parameters_of.Goals as goal
 

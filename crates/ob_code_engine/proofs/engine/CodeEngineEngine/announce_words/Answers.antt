@@ -1,5 +1,5 @@
 use Rattle.std.proofs.Common.{arith}
-use Rattle.ob_code_law.proofs.PartsLaw.{parts_lawful}
+use Rattle.ob_code_correct.proofs.PartsLaw.{parts_lawful}
 use Rattle.ob_code_engine.proofs.Made.{made}
 use Rattle.ob_code_engine.proofs.engine.CodeEngineEngine.announce_words.Goals as goal
 

@@ -1,7 +1,7 @@
 use Rattle.std.proofs.Common.{◌≡◌, length, ap, arith}
 use Rattle.std.proofs.lemmas.Option.{slice_get_within}
-use Rattle.ob_code_law.specs.CodeMeaning.{value_count}
-use Rattle.ob_code_law.proofs.ExportLaw.{most_has}
+use Rattle.ob_code_correct.specs.CodeMeaning.{value_count}
+use Rattle.ob_code_correct.proofs.ExportLaw.{most_has}
 use Rattle.ob_code_engine.specs.CodeEngine.{CompiledParts}
 use Rattle.ob_code_engine.proofs.Counts.{arguments_count}
 use Rattle.ob_code_engine.proofs.engine.CodeEngineEngine.lay.Goals as goal

@@ -6,12 +6,12 @@ use Rattle.ob_checked.specs.CheckedModule.{program_in}
 use Rattle.ob_code_calls.specs.Scalars.{held_of}
 use Rattle.ob_interface.specs.View.{reply_of}
 use Rattle.ob_interface.specs.declared.scalar.Scalar.{Scalar}
-use Rattle.ob_object_order.specs.LegalOrder.{CallEnds}
+use Rattle.ob_object_run.specs.LegalOrder.{CallEnds}
 use Rattle.ob_object_search.specs.Code.{IsCodeOf, IsMadeBy}
 use Rattle.ob_object_search.specs.Kept.{kept_in}
 use Rattle.ob_object_search.specs.declared.coded.ModuleCode.{ModuleCode}
 use Rattle.ob_object_search.proofs.ByCode.{coded_effect, some_at}
-use Rattle.ob_positions.specs.Store.{Activation}
+use Rattle.ob_meaning.specs.ByPositionStore.{Activation}
 use Rattle.wf_history.specs.View.{seen_call}
 use Rattle.ob_object_search.proofs.instance.ModuleObject.called_by_code.Goals as goal
 

@@ -1,6 +1,6 @@
 use Rattle.std.proofs.Common.{[], ap, sym, ◌∙◌}
-use Rattle.ob_positions.specs.Store as Stores
-use Rattle.ob_positions.specs.Value as Values
+use Rattle.ob_meaning.specs.ByPositionStore as Stores
+use Rattle.ob_meaning.specs.ByPositionValue as Values
 use Rattle.ob_store.specs.Begun.{taken_back, begun_by}
 use Rattle.ob_store.specs.declared.before.Listed.TheVariants.{Variable}
 use Rattle.ob_store.proofs.TakenBack.{taken_back-last}

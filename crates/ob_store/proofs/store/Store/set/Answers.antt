@@ -1,7 +1,7 @@
 use Rattle.std.proofs.Common.{arith, ap, ◌∙◌, ◌∷◌, map}
 use Rattle.std.proofs.lemmas.List.{with_items_is}
-use Rattle.ob_positions.specs.Store as Stores
-use Rattle.ob_positions.specs.Value.{Single}
+use Rattle.ob_meaning.specs.ByPositionStore as Stores
+use Rattle.ob_meaning.specs.ByPositionValue.{Single}
 use Rattle.ob_store.specs.View.{store_in, held_in, place_in, activation_in, variables_in}
 use Rattle.ob_store.proofs.Stored.{first_stored, behind_stored, beyond_stored}
 use Rattle.ob_store.proofs.store.Store.set.Goals.{then-behind-len, else-behind-len}

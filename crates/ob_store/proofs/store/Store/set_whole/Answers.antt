@@ -1,7 +1,7 @@
 use Rattle.std.proofs.Common.{[], ap, ◌∙◌, map, arith}
 use Rattle.std.proofs.lemmas.List.{with_items_is}
-use Rattle.ob_positions.specs.Store as Stores
-use Rattle.ob_positions.specs.Value.{Single}
+use Rattle.ob_meaning.specs.ByPositionStore as Stores
+use Rattle.ob_meaning.specs.ByPositionValue.{Single}
 use Rattle.ob_store.specs.View.{held_in, variables_in}
 use Rattle.ob_store.proofs.Stored.{behind_stored}
 use Rattle.ob_store.proofs.store.Store.set_whole.Goals as goal

@@ -1,6 +1,6 @@
 use Rattle.std.proofs.Common.{[], refl, ap, sym, ◌∙◌, set, length, arith}
-use Rattle.ob_positions.specs.Store as Stores
-use Rattle.ob_positions.specs.Value.{Single}
+use Rattle.ob_meaning.specs.ByPositionStore as Stores
+use Rattle.ob_meaning.specs.ByPositionValue.{Single}
 use Rattle.ob_store.specs.View.{variables_in}
 use Rattle.ob_store.specs.Begun.{begun_by}
 use Rattle.ob_store.specs.declared.value.Value.TheVariants as Variants

@@ -1,5 +1,5 @@
 use Rattle.std.proofs.Common.{ap, sym, ◌∙◌}
-use Rattle.ob_positions.specs.Value as Values
+use Rattle.ob_meaning.specs.ByPositionValue as Values
 use Rattle.ob_store.proofs.Parts.{selected-single}
 use Rattle.ob_store.proofs.store.Store.value_at.Goals as goal
 

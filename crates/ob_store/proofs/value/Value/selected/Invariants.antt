@@ -1,5 +1,5 @@
 use Rattle.std.proofs.Common.{◌≡◌, drop}
-use Rattle.ob_positions.specs.Value as Values
+use Rattle.ob_meaning.specs.ByPositionValue as Values
 use Rattle.ob_store.specs.View.{value_in}
 use Rattle.ob_store.proofs.value.Value.selected.Given as goal
 

@@ -1,10 +1,10 @@
 use Rattle.std.proofs.Common.{◌≡◌, ap, ◌∙◌, arith}
 use Rattle.ob_typing.specs.Program.{Program}
 use Rattle.ob_checked.specs.CheckedModule.{program_in}
-use Rattle.ob_code_layout.specs.Layout.{LayoutParts}
+use Rattle.ob_layout.specs.Layout.{LayoutParts}
 use Rattle.ob_code_scheme.specs.Temporaries.{stack_words}
-use Rattle.ob_code_law.specs.CodeMeaning.{most, result_count, value_count}
-use Rattle.ob_code_law.specs.Compiled.{entrances_from}
+use Rattle.ob_code_correct.specs.CodeMeaning.{most, result_count, value_count}
+use Rattle.ob_code_correct.specs.Compiled.{entrances_from}
 use Rattle.ob_tree.proofs.Known.{counted_stack, few_in_stack}
 use Rattle.ob_tree.proofs.engine.TreeEngine.new.Goals as goal
 

@@ -1,7 +1,7 @@
 use Rattle.std.proofs.Common.{◌≡◌, ap, ◌∙◌, arith}
 use Rattle.ob_checked.specs.CheckedModule.{program_in}
-use Rattle.ob_code_law.specs.CodeMeaning.{most, value_count}
-use Rattle.ob_code_law.specs.Compiled.{entrances_from}
+use Rattle.ob_code_correct.specs.CodeMeaning.{most, value_count}
+use Rattle.ob_code_correct.specs.Compiled.{entrances_from}
 use Rattle.ob_tree.proofs.Known.{exports_are, few_values}
 use Rattle.ob_tree.proofs.engine.TreeEngineEngine.announce_words.Goals as goal
 

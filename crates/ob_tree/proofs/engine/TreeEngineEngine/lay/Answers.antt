@@ -1,9 +1,9 @@
 use Rattle.std.proofs.Common.{◌≡◌, suc, length, ap, arith}
 use Rattle.std.proofs.lemmas.Option.{slice_get_within}
 use Rattle.ob_checked.specs.CheckedModule.{program_in}
-use Rattle.ob_code_law.specs.CodeMeaning.{most, value_count}
-use Rattle.ob_code_law.specs.Compiled.{entrances_from}
-use Rattle.ob_code_law.proofs.ExportLaw.{most_has}
+use Rattle.ob_code_correct.specs.CodeMeaning.{most, value_count}
+use Rattle.ob_code_correct.specs.Compiled.{entrances_from}
+use Rattle.ob_code_correct.proofs.ExportLaw.{most_has}
 use Rattle.ob_tree.proofs.Known.{exports_are}
 use Rattle.ob_tree.proofs.Typed.{arguments_count}
 use Rattle.ob_tree.proofs.engine.TreeEngineEngine.lay.Goals as goal

@@ -2,7 +2,7 @@ use Rattle.std.proofs.Common.{List, length, sym, ap, arith}
 use Rattle.ob_interface.specs.declared.export.Formal.{Formal}
 use Rattle.ob_checked.specs.CheckedModule.{program_in}
 use Rattle.ob_checked.specs.View.{program_of}
-use Rattle.ob_code_layout.specs.Layout.{parts_of}
+use Rattle.ob_layout.specs.Layout.{parts_of}
 use Rattle.ob_tree.proofs.Known.{few_at, frames_are, variables_are, few_in_block, small_frames}
 use Rattle.ob_tree.proofs.engine.TreeEngineEngine.start.Goals as goal
 

@@ -1,7 +1,7 @@
 use Rattle.std.proofs.Common.{ap}
 use Rattle.ob_checked.specs.CheckedModule.{program_in}
 use Rattle.ob_checked.specs.View.{program_of}
-use Rattle.ob_code_layout.specs.Layout.{parts_of}
+use Rattle.ob_layout.specs.Layout.{parts_of}
 use Rattle.ob_code_scheme.specs.Types.{variables_scope}
 use Rattle.ob_tree.proofs.Known.{frames_are, variables_are, small_frames}
 use Rattle.ob_tree.proofs.engine.TreeEngineEngine.step.Goals as goal

@@ -1,6 +1,6 @@
 use Rattle.std.proofs.Common.{◌≡◌, [], ◌∷◌, ap, ◌∙◌, subst}
 use Rattle.ob_checked.specs.View.{program_of}
-use Rattle.ob_tree_work.specs.Work.{Task, Instruction}
+use Rattle.ob_tree_law.specs.Work.{Task, Instruction}
 use Rattle.ob_tree_tasks.specs.Tasks.{task_of}
 use Rattle.ob_tree_tasks.specs.WorkTasks.{behind}
 use Rattle.ob_tree_law.specs.TreeEngine.{TreeRun}

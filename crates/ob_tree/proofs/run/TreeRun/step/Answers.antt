@@ -3,7 +3,7 @@ use Rattle.ob_checked.specs.View.{program_of}
 use Rattle.ob_code_scheme.specs.Types.{Scope, variables_scope}
 use Rattle.wf_table.specs.declared.engine_turn.EngineTurn.{EngineTurn}
 use Rattle.wf_table.specs.Meaning.{Turned}
-use Rattle.ob_tree_work.specs.Work.{opened, settled}
+use Rattle.ob_tree_law.specs.Work.{opened, settled}
 use Rattle.ob_tree_tasks.specs.Opening.{CanBeOpened}
 use Rattle.ob_tree_tasks.specs.WorkTasks.{WorkTasks}
 use Rattle.ob_tree_law.specs.TreeEngine.{TreeRun}

@@ -2,9 +2,9 @@ use Rattle.std.proofs.Common.{◌≡◌, ◌^◌, ◌<◌, List, length, set, sy
 use Rattle.std.proofs.lemmas.Option.{slice_get_read, get_or_from_slice_get}
 use Rattle.wf_table.specs.Object.{State, Records}
 use Rattle.wf_table.specs.Schedule.{steps_of}
-use Rattle.wf_bound.specs.declared.spent.Spent.{Spent}
-use Rattle.wf_bound.specs.Spent.{unspent}
-use Rattle.wf_bound.specs.Counted.{spent_of}
+use Rattle.wf_table.specs.declared.spent.Spent.{Spent}
+use Rattle.wf_table.specs.Spent.{unspent}
+use Rattle.wf_table.specs.Counted.{spent_of}
 use Rattle.wf_object.specs.InARow.{after_steps, spent_after_steps}
 use Rattle.wf_records.specs.Times.{counted_times}
 use Rattle.wf_object.specs.Kept.{IsKept}

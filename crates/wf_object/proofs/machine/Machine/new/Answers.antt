@@ -1,7 +1,7 @@
 use Rattle.std.proofs.Common.{rules, ◌≡◌, ◌<◌, ◌≤◌, replicate, arith}
 use Rattle.wf_table.specs.declared.process.Sizes.{Sizes}
 use Rattle.wf_table.proofs.StartSound.{few_words}
-use Rattle.wf_bound.specs.Spent.{unspent}
+use Rattle.wf_table.specs.Spent.{unspent}
 use Rattle.wf_object.proofs.Keeps.{start_kept}
 use Rattle.wf_object.proofs.machine.Machine.new.Goals as goal
 

@@ -1,8 +1,8 @@
 use Rattle.std.proofs.Common.{◌∙◌, sym}
 use Rattle.wf_table.specs.Object.{State}
-use Rattle.wf_commits.proofs.Laws.{order_once}
-use Rattle.wf_commits.proofs.Timed.{never_before}
-use Rattle.wf_standing.proofs.Legal.{legal}
+use Rattle.wf_table.proofs.CommitsLaws.{order_once}
+use Rattle.wf_table.proofs.Timed.{never_before}
+use Rattle.wf_table.proofs.Legal.{legal}
 use Rattle.wf_object.proofs.machine.Machine.order.Goals as goal
 
 pub returns-clause-legal : goal.returns-clause-legal

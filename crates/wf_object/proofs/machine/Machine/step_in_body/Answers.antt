@@ -5,9 +5,9 @@ use Rattle.wf_table.specs.declared.process.Label.TheVariants.{Body}
 use Rattle.wf_table.specs.Object.{State, Records}
 use Rattle.wf_table.specs.Schedule.{steps_of}
 use Rattle.wf_table.specs.Table.{Process}
-use Rattle.wf_bound.specs.declared.spent.Spent.{Spent}
-use Rattle.wf_bound.specs.Spent.{unspent}
-use Rattle.wf_bound.specs.Counted.{spent_of}
+use Rattle.wf_table.specs.declared.spent.Spent.{Spent}
+use Rattle.wf_table.specs.Spent.{unspent}
+use Rattle.wf_table.specs.Counted.{spent_of}
 use Rattle.wf_object.specs.InARow.{after_steps, spent_after_steps}
 use Rattle.wf_object.specs.InBody.{cell_behind, process_behind}
 use Rattle.wf_object.proofs.Staying.{body_inside, body_kept, body_spends, body_steps}

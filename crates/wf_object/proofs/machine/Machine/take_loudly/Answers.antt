@@ -18,9 +18,9 @@ use Rattle.wf_table.specs.Table.{Process}
 use Rattle.wf_table.proofs.Counted.{one_turn}
 use Rattle.wf_table.proofs.FewValues.{few_answered}
 use Rattle.wf_table.proofs.KeepsTurns.{event_in_turn}
-use Rattle.wf_bound.specs.declared.spent.Spent.{Spent}
-use Rattle.wf_bound.specs.Spent.{unspent, spent_after, has_more}
-use Rattle.wf_bound.specs.Counted.{spent_of, spent_by_step, count_by}
+use Rattle.wf_table.specs.declared.spent.Spent.{Spent}
+use Rattle.wf_table.specs.Spent.{unspent, spent_after, has_more}
+use Rattle.wf_table.specs.Counted.{spent_of, spent_by_step, count_by}
 use Rattle.wf_object.specs.Shown.{spent_by, state_of}
 use Rattle.wf_object.proofs.Keeps.{step_kept}
 use Rattle.wf_object.proofs.Spends.{bodies_room, inside_room, outside_room, later}

@@ -1,5 +1,0 @@
-use Rattle.ob_agreement.proofs.SameCalls.{call_same}
-use Rattle.ob_agreement.proofs.laws.calls_from_outside_agree.Goals as goal
-
-pub returns : goal.returns
-returns c = call_same

@@ -1,4 +1,0 @@
-pub mod Resolved
-pub mod Same
-pub mod Exported
-pub mod Laws

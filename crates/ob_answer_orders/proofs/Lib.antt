@@ -1,4 +1,0 @@
-pub mod Refused
-pub mod PartLines
-pub mod Shown
-pub mod Drawings

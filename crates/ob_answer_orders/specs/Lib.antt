@@ -1,3 +1,0 @@
-pub mod Orders
-pub mod ExplainedOrders
-pub mod HistoryPictureAnswers

@@ -1,3 +1,0 @@
-pub mod ExplainedAlways
-pub mod OutcomesAnswers
-pub mod OutcomesFaultLines

@@ -1,0 +1,6 @@
+pub mod Answered
+pub mod Drawings
+pub mod Numbered
+pub mod PartLines
+pub mod Refused
+pub mod Shown

@@ -1,2 +1,0 @@
-pub mod WholeLines
-pub mod WholesAnswers

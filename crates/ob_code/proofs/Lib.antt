@@ -1,0 +1,11 @@
+pub mod Constructs
+pub mod ConstructsWithin
+pub mod Falls
+pub mod Grown
+pub mod Procedures
+pub mod Small
+pub mod Sums
+pub mod Values
+pub mod ValuesWithin
+pub mod Weights
+pub mod Within

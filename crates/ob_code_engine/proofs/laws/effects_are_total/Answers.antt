@@ -1,5 +1,0 @@
-use Rattle.ob_code_engine.proofs.Effects.{effects_total}
-use Rattle.ob_code_engine.proofs.laws.effects_are_total.Goals as goal
-
-pub returns : goal.returns
-returns c = effects_total

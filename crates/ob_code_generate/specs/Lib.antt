@@ -1,5 +1,0 @@
-pub mod Scoped
-pub mod Growing
-pub mod Entering
-pub mod Limits
-pub mod Behind

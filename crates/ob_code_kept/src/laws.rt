@@ -1,8 +1,0 @@
-//! Laws of runs. What a function here ensures is proved; it does nothing.
-
-ghost use Rattle.ob_code_kept.specs.Kept.{OpeningsAreStates};
-
-/// An opening that is done leaves a state of the module's variables.
-pub fn openings_are_states()
-    ensures { OpeningsAreStates }
-{}

@@ -1,5 +1,0 @@
-use Rattle.ob_code_law.proofs.CodeLaw.{openings_lawful}
-use Rattle.ob_code_law.proofs.laws.openings_are_lawful.Goals as goal
-
-pub returns : goal.returns
-returns c = openings_lawful

@@ -1,5 +1,0 @@
-pub mod Lengths
-pub mod Placed
-pub mod Entries
-pub mod Running
-pub mod Owed

@@ -1,2 +1,0 @@
-mod Carried
-mod Meant

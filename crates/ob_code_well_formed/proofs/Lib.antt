@@ -1,9 +1,0 @@
-mod Shapes
-mod Plain
-mod Names
-mod Ranges
-pub mod Typed
-mod Declared
-mod Formed
-mod Held
-mod Programs

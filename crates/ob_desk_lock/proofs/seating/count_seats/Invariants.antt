@@ -1,6 +1,0 @@
-use Rattle.std.proofs.Common.{◌≡◌, take}
-use Rattle.ob_desk_lock.specs.Close.{seats_at}
-use Rattle.ob_desk_lock.proofs.seating.count_seats.Given as goal
-
-abbrev pub invariant-loop-seat : goal.invariant-loop-seat
-invariant-loop-seat l = l.count ≡ seats_at l.process (take l.seat-index l.seats)

@@ -1,2 +1,0 @@
-mod TextFaults
-pub mod ReadCalls

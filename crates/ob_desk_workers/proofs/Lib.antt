@@ -1,3 +1,0 @@
-mod Crossing
-mod Seats
-mod Joins

@@ -1,3 +1,0 @@
-pub mod Selectors
-pub mod Chains
-pub mod InitialValues

@@ -1,8 +1,0 @@
-use Rattle.std.proofs.Common.{rules, tests}
-use Rattle.std.specs.Char.{is_ascii_lowercase}
-use Rattle.std.proofs.lemmas.Iterator.{YieldsList-from_slice}
-use Rattle.std.proofs.lemmas.Iterator.Search.{any_from_yields_List}
-use Rattle.ob_explain_forms.proofs.items.has_small_letter.Goals as goal
-
-pub returns : goal.returns
-returns c = any_from_yields_List is_ascii_lowercase _ _ _ c.any.ensures.ran (YieldsList-from_slice c.args.word.now cc) (λ x r q k. search (rules, tests))

@@ -1,5 +1,0 @@
-pub mod Marks
-pub mod Items
-pub mod ScriptLines
-pub mod Values
-pub mod Records

@@ -1,3 +1,0 @@
-pub mod Kinds
-pub mod Declarations
-pub mod Numerals

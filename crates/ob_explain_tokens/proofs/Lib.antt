@@ -1,3 +1,0 @@
-pub mod NoTokens
-pub mod Steps
-pub mod OpenSteps

@@ -1,0 +1,43 @@
+use Rattle.std.proofs.Common.{◌∙◌, ◌<◌, ℕ, All, ap, length, map, string_bytes, subst, sym}
+use Rattle.std.specs.Prelude.{option_map}
+use Rattle.ob_checked.specs.CheckedModule.{program_in}
+use Rattle.ob_explained.specs.Sources.{source_of}
+use Rattle.ob_grammar.specs.View.{module_of}
+use Rattle.ob_mean.specs.View.{call_of}
+use Rattle.ob_object_compile.specs.View.{object_in}
+use Rattle.ob_object_calls.proofs.Runs.{callers_below}
+use Rattle.ob_store.specs.View.{state_of}
+use Rattle.ob_text_words.specs.declared.script_call.ScriptCall.{ScriptCall}
+use Rattle.ob_traps.specs.Reaching.{site_of}
+use Rattle.ob_explained_records.proofs.TrapsOfCalls.{callers_long, lines_of_calls, sites_long}
+use Rattle.ob_explained_records.proofs.traps.told_of_calls.Goals as goal
+
+pub traps_told-requires-clause-below : goal.traps_told-requires-clause-below
+traps_told-requires-clause-below c =
+    callers_below c.processes.result c.args.calls.now c.deref-2.result.now (c.deref-2.ensures.value ∙ c.in_ok-callers.ensures)
+    (subst (λ (n : ℕ). All (λ (x : ScriptCall). x.process < n) c.args.calls.now) (sym c.processes.ensures) c.requires.processes)
+
+pub traps_told-requires-clause-called : goal.traps_told-requires-clause-called
+traps_told-requires-clause-called c =
+    callers_long c.deref-2.result.now c.args.calls.now (c.deref-2.ensures.value ∙ c.in_ok-callers.ensures)
+    ∙ sym (sites_long (option_map site_of) c.deref-4.result.now (program_in c.checked-checked.result.now) c.budget-budget.result (state_of c.in_ok-opening.opening)
+    (map call_of c.deref.result.now) c.args.calls.now (ap (map (option_map site_of)) c.deref-4.ensures.value ∙ c.in_ok-sites.ensures)
+    (ap (map call_of) c.deref.ensures.value ∙ c.in_ok-asked.ensures))
+
+pub traps_told-requires-clause-lined : goal.traps_told-requires-clause-lined
+traps_told-requires-clause-lined c =
+    ap length (c.deref-3.ensures.value ∙ c.in_ok-lines.ensures) ∙ c.requires.lined
+    ∙ sym (sites_long (option_map site_of) c.deref-4.result.now (program_in c.checked-checked.result.now) c.budget-budget.result (state_of c.in_ok-opening.opening)
+    (map call_of c.deref.result.now) c.args.calls.now (ap (map (option_map site_of)) c.deref-4.ensures.value ∙ c.in_ok-sites.ensures)
+    (ap (map call_of) c.deref.ensures.value ∙ c.in_ok-asked.ensures))
+
+pub returns : goal.returns
+returns c =
+    c.in_ok-or_none.ensures
+    ∙ lines_of_calls (source_of c.args.object) (source_of c.args.script) (object_in c.args.compiled.now) c.args.calls.now
+    (module_of c.tree.result.now) (program_in c.checked-checked.result.now) c.budget-budget.result (state_of c.in_ok-opening.opening) c.deref-2.result.now c.deref-3.result.now
+    (map call_of c.deref.result.now) (map (option_map site_of) c.deref-4.result.now) (string_bytes c.in_ok-told.told)
+    (c.tree.ensures.tree ∙ c.checked-checked.ensures.tree) c.checked-checked.ensures.program c.budget-budget.ensures (c.in_ok-opening.ensures ∙ c.opening.ensures)
+    (c.deref-2.ensures.value ∙ c.in_ok-callers.ensures) (ap (map call_of) c.deref.ensures.value ∙ c.in_ok-asked.ensures)
+    (c.deref-3.ensures.value ∙ c.in_ok-lines.ensures) (ap (map (option_map site_of)) c.deref-4.ensures.value ∙ c.in_ok-sites.ensures)
+    c.in_ok-told.ensures

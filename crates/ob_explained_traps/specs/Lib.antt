@@ -1,3 +1,0 @@
-pub mod CallLines
-pub mod TrapLines
-pub mod TrapsText

@@ -1,2 +1,0 @@
-pub mod ValueLines
-pub mod ToldLines

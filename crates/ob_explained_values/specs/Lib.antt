@@ -1,3 +1,0 @@
-pub mod ValueLines
-pub mod ValueMarks
-pub mod ExplainedValues

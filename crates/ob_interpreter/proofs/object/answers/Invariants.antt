@@ -1,7 +1,0 @@
-use Rattle.std.proofs.Common.{◌≡◌, map, take}
-use Rattle.ob_store.specs.View.{held_in}
-use Rattle.ob_positions.specs.Object as Objects
-use Rattle.ob_interpreter.proofs.object.answers.Given as goal
-
-abbrev pub invariant-loop-held : goal.invariant-loop-held
-invariant-loop-held l = l.all.items ≡ Objects.values_of_results (map held_in (take l.held-index l.held-items))

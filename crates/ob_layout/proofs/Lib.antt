@@ -1,0 +1,10 @@
+pub mod Counted
+pub mod Decoded
+pub mod Framed
+pub mod Laid
+pub mod Most
+pub mod PartWords
+pub mod Scalars
+pub mod ShapeTypes
+pub mod Small
+pub mod Stacks

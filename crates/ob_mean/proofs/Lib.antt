@@ -1,0 +1,14 @@
+pub mod Calls
+pub mod CallsMade
+pub mod Chains
+pub mod Counting
+pub mod Exports
+pub mod InTurn
+pub mod InitialValues
+pub mod Kept
+pub mod Least
+pub mod MoreTurns
+pub mod Openings
+pub mod Runs
+pub mod Selectors
+pub mod Sizes

@@ -1,0 +1,60 @@
+use Rattle.std.proofs.Common.{◌≡◌, ap, sym, refl, ◌∙◌, arith, length}
+use Rattle.std.proofs.lemmas.List.{take_all}
+use Rattle.std.proofs.lemmas.Option.{slice_get_read}
+use Rattle.ob_store.specs.View.{values_in}
+use Rattle.ob_checked.specs.Types.{structure_by, types_of, fields_in, fields_by, is_within}
+use Rattle.ob_checked.specs.View.{table_of}
+use Rattle.ob_meaning.specs.ByPositionValue as Values
+use Rattle.ob_mean.proofs.InitialValues.{most, rank_at, element_falls, fields_fall, fields_more, none_begun, array_begun, record_begun}
+use Rattle.ob_mean.proofs.begun.+initial.Goals as goal
+
+pub initial_parts-returns-in-None : goal.initial_parts-returns-in-None
+initial_parts-returns-in-None t c =
+    sym (none_begun (table_of c.args.types.now) c.in-None.ensures.table c.args.data_type c.in-Structured.number c.in-Structured.is c.in-None.ensures.entry)
+
+pub initial_parts-initial_parts-requires : goal.initial_parts-initial_parts-requires
+initial_parts-initial_parts-requires t c =
+    let falls = element_falls (table_of c.args.types.now) c.in-Some.ensures.table c.args.data_type c.in-Structured.number c.in-Structured.is c.in-Some.structured.now c.in-Some.ensures.entry _ _ c.in-Array.is in
+    (omega (arith, falls), tt)
+
+pub initial_parts-initial_fields-requires : goal.initial_parts-initial_fields-requires
+initial_parts-initial_fields-requires t c =
+    let n = c.in-Structured.number in
+    let falls = fields_fall (table_of c.args.types.now) c.in-Some.ensures.table c.args.data_type n c.in-Structured.is c.in-Some.structured.now c.in-Some.ensures.entry (fields_in c.in-Record.fields) (ap (is_within n) c.in-Record.is) in
+    let all : most c.as_slice.result.now ≡ most (fields_in c.in-Record.fields) = ap most c.as_slice.ensures in
+    (omega (arith, falls, all), tt)
+
+pub initial_parts-returns-in_ok-copies-in-Array : goal.initial_parts-returns-in_ok-copies-in-Array
+initial_parts-returns-in_ok-copies-in-Array t c =
+    array_begun (table_of c.args.types.now) c.in-Some.ensures.table c.args.data_type c.in-Structured.number c.in-Structured.is
+    c.in-Some.structured.now c.in-Some.ensures.entry c.in_ok-copies-in-Array.field-0 _ _ _ c.in-Array.is c.in_ok-copies-in-Array.ensures c.in_ok-first-in-Array.ensures
+
+pub initial_parts-returns-in_ok-initial_fields-in-Record : goal.initial_parts-returns-in_ok-initial_fields-in-Record
+initial_parts-returns-in_ok-initial_fields-in-Record t c =
+    let es = table_of c.args.types.now in
+    let e = c.in-Some.structured.now in
+    record_begun es c.in-Some.ensures.table c.args.data_type c.in-Structured.number c.in-Structured.is
+    e c.in-Some.ensures.entry c.in_ok-initial_fields-in-Record.field-0 (fields_in c.in-Record.fields)
+    (ap (structure_by (types_of es) e.place) c.in-Record.is)
+    (c.in_ok-initial_fields-in-Record.ensures ∙ ap (λ fs. Values.initial_fields (fields_by (types_of es) fs)) c.as_slice.ensures)
+
+pub initial_fields-initial_parts-requires : goal.initial_fields-initial_parts-requires
+initial_fields-initial_parts-requires t c =
+    let fields = c.args.fields.now in
+    let i = c.loop-field.field-index in
+    let falls = rank_at fields i c.field-item.result (sym (slice_get_read fields (length fields) i c.field-item.result refl c.loop-field-test.true c.field-item.is)) in
+    (omega (arith, falls), tt)
+
+pub initial_fields-loop-field-preserved : goal.initial_fields-loop-field-preserved
+initial_fields-loop-field-preserved t c =
+    let fields = c.args.fields.now in
+    let i = c.loop-field.field-index in
+    ap values_in c.in_ok-push.ensures.items
+    ∙ fields_more (types_of (table_of c.args.types.now)) fields _ _ i c.field-item.result
+    (sym (slice_get_read fields (length fields) i c.field-item.result refl c.loop-field-test.true c.field-item.is)) c.loop-field.invariant c.in_ok-part.ensures
+
+-- the invariant at the end is of all fields
+pub initial_fields-returns : goal.initial_fields-returns
+initial_fields-returns t c =
+    let fields = c.args.fields.now in
+    c.loop-field.invariant ∙ ap (λ fs. Values.initial_fields (fields_by (types_of (table_of c.args.types.now)) fs)) (take_all c.loop-field.field-index fields (omega arith))

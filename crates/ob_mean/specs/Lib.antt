@@ -1,0 +1,9 @@
+pub mod Evaluating
+pub mod Faults
+pub mod Laws
+pub mod Outside
+pub mod Running
+pub mod Sequences
+pub mod Turns
+pub mod View
+pub mod Written

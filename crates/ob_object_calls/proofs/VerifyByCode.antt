@@ -1,0 +1,45 @@
+-- The code of a module, in the state with which a record's calls begin.
+use Rattle.std.proofs.Common.{◌≡◌, ◌∙◌, ℕ, Some, ap, refl, sym, subst}
+use Rattle.std.specs.Prelude.{IfSome, Option}
+use Rattle.ob_code_calls.specs.Parts.{parts_in}
+use Rattle.ob_code_correct.specs.CodeMeaning.{EngineParts}
+use Rattle.ob_code_correct.specs.Compiled.{Fits, IsFitting, parts_of}
+use Rattle.ob_code_correct.specs.Parts.{IsCompiledTo, IsLawfulFor}
+use Rattle.ob_code_scheme.specs.Layout.{encoded}
+use Rattle.ob_code_scheme.specs.Types.{IsStateOf}
+use Rattle.ob_code_scheme.specs.WellFormed.{IsWellFormed}
+use Rattle.ob_code_calls.specs.Standing as Standing
+use Rattle.ob_interface.specs.Call.{ObjectCall, Reply}
+use Rattle.ob_object_run.specs.InTurn.{IsMadeInTurn, Takeable}
+use Rattle.ob_object_calls.specs.ByCode.{IsAt}
+use Rattle.ob_object_calls.specs.declared.verify_coded.ByCode.{ByCode}
+use Rattle.ob_meaning.specs.ByPositionStore.{Activation}
+use Rattle.ob_typing.specs.Program.{Program}
+
+module _ (program : Program) (well : IsWellFormed program) (budget : ℕ) (parts : EngineParts) (are : parts ≡ parts_of program budget) where
+  pub its_budget : parts.budget ≡ budget
+  its_budget = ap (λ (q : EngineParts). q.budget) are
+
+  pub compiled_to : IsCompiledTo program parts
+  compiled_to = record { well = well; parts_are = are ∙ ap (parts_of program) (sym its_budget) }
+
+  pub opens_lawfully : (opening : Activation) → IsStateOf program.variables opening → ∥ IsLawfulFor parts (encoded opening) ∥₁
+  opens_lawfully opening typed =
+      ∣ record {
+        program = program;
+        compiled = compiled_to;
+        is = record { state = opening; encodes = record { typed = typed; words_are = refl } };
+      } ∣₁
+
+-- a call that is taken fits the code
+pub fits_code : (b : ByCode) (call : ObjectCall) → Takeable Fits IsAt b call → IsFitting (parts_in b.coded.calls).exports call
+fits_code b call t = subst (λ (q : EngineParts). IsFitting q.exports call) (sym t.stands.compiled.parts_are) t.takes
+
+-- what the code makes of it
+pub made_in_turn : (program : Program) (budget : ℕ) (call : ObjectCall) (before : Activation) (after : ByCode) (reply : Reply) → Standing.IsMade program budget call before after.coded reply →
+    IsMadeInTurn IsAt program budget call before after reply
+made_in_turn program budget call before after reply m = record { reply_is = m.reply_is; stands = m.stands }
+
+-- what holds of the value that there is
+pub some_at : {A : Type 0} (o : Option A) (x : A) (P : A → Type 0) → o ≡ Some x → IfSome o P → P x
+some_at {A} o x P is h = subst (λ (q : Option A). IfSome q P) is h

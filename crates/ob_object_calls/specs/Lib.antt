@@ -1,0 +1,15 @@
+pub mod Beginnings
+pub mod Begins
+pub mod ByCode
+pub mod Early
+pub mod MadeCalls
+pub mod RecordCalls
+pub mod ReplyLines
+pub mod RunRecords
+pub mod SequentialParts
+pub mod SequentialRun
+pub mod ToldLines
+pub mod ToldRun
+pub mod Verified
+pub mod VerifyFaults
+pub mod View

@@ -1,8 +1,0 @@
--- No row so far has a name.
-use Rattle.std.proofs.Common.{◌≡◌, None, map}
-use Rattle.ob_object_order.proofs.noted.empty_rows.Given as goal
-use Rattle.ob_object_order.specs.Rows.{in_rows}
-use Rattle.wf_history.specs.declared.event.CallId.{CallId}
-
-abbrev pub invariant-loop : goal.invariant-loop
-invariant-loop l = (q : CallId) → in_rows (map (λ row. row.items) l.rows.items) q ≡ None

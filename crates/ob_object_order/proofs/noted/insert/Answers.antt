@@ -1,4 +1,0 @@
-use Rattle.ob_object_order.proofs.noted.insert.Goals as goal
-
-pub returns : goal.returns
-returns c = c.in_ok-insert.ensures.updates.0

@@ -1,7 +1,0 @@
--- The least End behind, and the first call so far that begins after it.
-use Rattle.ob_object_order.proofs.order.first_too_early.Given as goal
-use Rattle.ob_object_order.specs.PlacedCalls.{placed_all}
-use Rattle.ob_object_order.proofs.Early.{IsLeast, IsFirstFrom}
-
-abbrev pub invariant-loop-k : goal.invariant-loop-k
-invariant-loop-k l = IsLeast (placed_all l.places l.order) l.k l.least × IsFirstFrom (placed_all l.places l.order) l.k l.first

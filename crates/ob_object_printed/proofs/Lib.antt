@@ -1,9 +1,0 @@
-pub mod SameStates
-pub mod OneEnd
-pub mod Traps
-pub mod Replies
-pub mod Along
-pub mod Events
-pub mod Positions
-pub mod Records
-pub mod Runs

@@ -1,5 +1,0 @@
-pub mod Begins
-pub mod Early
-pub mod MadeCalls
-pub mod RecordCalls
-pub mod View

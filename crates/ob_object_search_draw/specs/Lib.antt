@@ -1,4 +1,0 @@
-pub mod Parts
-pub mod HistoryPictures
-pub mod DrawHistoryFaults
-pub mod Forms

@@ -1,4 +1,0 @@
-pub mod Fronts
-pub mod Ended
-pub mod Shown
-pub mod Evident

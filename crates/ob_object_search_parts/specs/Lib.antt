@@ -1,4 +1,0 @@
-pub mod Here
-pub mod Parted
-pub mod PartedFaults
-pub mod View

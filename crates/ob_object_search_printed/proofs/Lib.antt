@@ -1,3 +1,0 @@
-pub mod Typed
-pub mod Told
-pub mod Found

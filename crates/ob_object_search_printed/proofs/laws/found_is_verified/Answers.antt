@@ -1,5 +1,0 @@
-use Rattle.ob_object_search_printed.proofs.Found.{found_verified}
-use Rattle.ob_object_search_printed.proofs.laws.found_is_verified.Goals as goal
-
-pub returns : goal.returns
-returns c = found_verified c.found_is_writable.ensures c.legal_is_verified.ensures

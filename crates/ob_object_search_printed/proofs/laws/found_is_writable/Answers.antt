@@ -1,5 +1,0 @@
-use Rattle.ob_object_search_printed.proofs.Found.{found_writable}
-use Rattle.ob_object_search_printed.proofs.laws.found_is_writable.Goals as goal
-
-pub returns : goal.returns
-returns c = found_writable c.modules_are_well_formed.ensures c.openings_are_states.ensures

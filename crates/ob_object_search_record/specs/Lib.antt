@@ -1,3 +1,0 @@
-pub mod SearchRecords
-pub mod RecordingFaults
-pub mod Heard

@@ -1,4 +1,0 @@
-mod InLockStep
-mod OneText
-mod ByCode
-mod Objects

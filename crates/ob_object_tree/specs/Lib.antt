@@ -1,2 +1,0 @@
-pub mod TreeRuns
-pub mod Laws

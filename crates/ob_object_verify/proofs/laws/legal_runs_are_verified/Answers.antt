@@ -1,5 +1,0 @@
-use Rattle.ob_object_verify.proofs.WithoutApplied.{runs_verified}
-use Rattle.ob_object_verify.proofs.laws.legal_runs_are_verified.Goals as goal
-
-pub returns : goal.returns
-returns c = runs_verified

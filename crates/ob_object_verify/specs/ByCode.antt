@@ -1,9 +1,0 @@
--- Where a module's code stands.
-use Rattle.std.specs.Prelude.{ℕ}
-use Rattle.ob_code_sequence.specs.Standing.{StandsAt}
-use Rattle.ob_object_verify.specs.declared.coded.ByCode.{ByCode}
-use Rattle.ob_positions.specs.Store.{Activation}
-use Rattle.ob_typing.specs.Program.{Program}
-
-abbrev pub IsAt : Program → (budget : ℕ) → Activation → ByCode → Type 0
-IsAt program budget state b = StandsAt program budget state b.coded

@@ -1,4 +1,0 @@
-pub mod Asked
-pub mod Crossing
-pub mod Named
-pub mod Simulated

@@ -1,3 +1,0 @@
-pub mod RecordingFaultLines
-pub mod PartsFaultLines
-pub mod HistoryFaultLines

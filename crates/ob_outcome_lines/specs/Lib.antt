@@ -1,2 +1,0 @@
-pub mod OutcomeLines
-pub mod Stories

@@ -1,3 +1,0 @@
-pub mod Listings
-pub mod Looks
-pub mod Spelled

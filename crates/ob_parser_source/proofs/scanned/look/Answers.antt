@@ -1,5 +1,0 @@
-use Rattle.ob_parser_source.proofs.Looks.{looked_from}
-use Rattle.ob_parser_source.proofs.scanned.look.Goals as goal
-
-pub returns-in-Ok : goal.returns-in-Ok
-returns-in-Ok c = looked_from _ _ _ c.in-Ok.ensures.gives

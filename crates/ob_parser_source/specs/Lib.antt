@@ -1,3 +1,0 @@
-pub mod Listed
-pub mod Scanned
-pub mod Sources

@@ -1,0 +1,12 @@
+pub mod Bars
+pub mod ChartView
+pub mod Charts
+pub mod Faults
+pub mod Labels
+pub mod LabelsView
+pub mod Moments
+pub mod Places
+pub mod Same
+pub mod Style
+pub mod Svg
+pub mod Widths

@@ -1,5 +1,0 @@
-pub mod Value
-pub mod Store
-pub mod Evaluation
-pub mod Statements
-pub mod Object

@@ -1,5 +1,0 @@
-pub mod Stores
-pub mod Runs
-pub mod Telling
-pub mod Sets
-pub mod Exported

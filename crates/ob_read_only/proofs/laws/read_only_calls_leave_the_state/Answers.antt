@@ -1,5 +1,0 @@
-use Rattle.ob_read_only.proofs.Runs.{read_only_calls}
-use Rattle.ob_read_only.proofs.laws.read_only_calls_leave_the_state.Goals as goal
-
-pub returns : goal.returns
-returns c = read_only_calls

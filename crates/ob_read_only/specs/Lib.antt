@@ -1,3 +1,0 @@
-pub mod ReadOnly
-pub mod Laws
-pub mod Told

@@ -1,6 +1,0 @@
-use Rattle.std.proofs.Common.{arith}
-use Rattle.std.proofs.lemmas.Int.{ints, to_z-of_z}
-use Rattle.ob_scalars.proofs.operators.difference.Goals as goal
-
-pub returns : goal.returns
-returns c = grind (arith, ints, to_z-of_z)

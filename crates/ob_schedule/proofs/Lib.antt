@@ -1,4 +1,0 @@
-pub mod Labels
-pub mod ItemReading
-pub mod LineItems
-pub mod ScheduleReading

@@ -1,7 +1,0 @@
--- The items of the words so far.
-use Rattle.std.proofs.Common.{map, take}
-use Rattle.ob_schedule.specs.Schedule.{AreItems}
-use Rattle.ob_schedule.proofs.schedule.read_schedule.Given as goal
-
-abbrev pub invariant-loop-index : goal.invariant-loop-index
-invariant-loop-index l = AreItems l.processes (take l.index (map (λ w. w.now) l.word-items)) l.items.items

@@ -1,2 +1,0 @@
-pub mod LabelNames
-pub mod Schedule

@@ -1,4 +1,0 @@
-pub mod ItemWords
-pub mod Numbers
-pub mod Chosen
-pub mod Answering

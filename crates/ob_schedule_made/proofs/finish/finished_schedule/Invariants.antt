@@ -1,8 +1,0 @@
--- What the lines so far add.
-use Rattle.std.proofs.Common.{length}
-use Rattle.ob_text_words.specs.Words.{lines}
-use Rattle.ob_schedule_made.proofs.Answering.{GoOn}
-use Rattle.ob_schedule_made.proofs.finish.finished_schedule.Given as goal
-
-abbrev pub invariant-loop-line : goal.invariant-loop-line
-invariant-loop-line l = GoOn (lines l.script) l.schedule (length l.yielded) l.text.items

@@ -1,2 +1,0 @@
-pub mod Chance
-pub mod Finish

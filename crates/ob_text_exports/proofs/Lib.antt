@@ -1,3 +1,0 @@
-pub mod ExportSearch
-pub mod OneList
-pub mod ValueReading

@@ -1,2 +1,0 @@
-pub mod ExportNames
-pub mod Values

@@ -1,4 +1,0 @@
-pub mod HistoryLines
-pub mod Names
-pub mod Reading
-pub mod Told

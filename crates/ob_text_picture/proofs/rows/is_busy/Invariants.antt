@@ -1,9 +1,0 @@
--- The process has nothing of what was looked at.
-use Rattle.std.proofs.Common.{◌≡◌, drop, map}
-use Rattle.ob_text_picture.specs.Shapes.{is_busy}
-use Rattle.ob_text_picture_chart.specs.View.{sight_of}
-use Rattle.ob_text_picture.proofs.rows.is_busy.Given as goal
-
-abbrev pub invariant-loop-index : goal.invariant-loop-index
-invariant-loop-index l =
-    is_busy l.frame l.band l.process (map sight_of l.sights) ≡ is_busy l.frame l.band l.process (map sight_of (drop l.index l.sights))

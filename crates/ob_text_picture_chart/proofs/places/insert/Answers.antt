@@ -1,4 +1,0 @@
-use Rattle.ob_text_picture_chart.proofs.places.insert.Goals as goal
-
-pub returns : goal.returns
-returns c = c.in_ok-insert.ensures.updates.0

@@ -1,4 +1,0 @@
-pub mod Labels
-pub mod Bars
-pub mod Widths
-pub mod View

@@ -1,2 +1,0 @@
-pub mod Style
-pub mod Svg

@@ -1,4 +1,0 @@
-//! Written records, read back.
-#![tactic(auto)]
-
-pub mod laws;

@@ -1,0 +1,22 @@
+use Rattle.std.proofs.Common.{◌≡◌, ◌∷◌, ◌∙◌, Some, ap, refl, sym, rules}
+use Rattle.std.specs.Option.{option_copied}
+use Rattle.std.specs.List.{slice_get}
+use Rattle.ob_text_reading.specs.RecordLines.{schedule, variable}
+use Rattle.ob_text_reading.proofs.Fronts.{front_of}
+use Rattle.ob_text_reading.proofs.splitting.is_tail.Goals as goal
+
+pub returns-in-Some-eq83 : goal.returns-in-Some-eq83
+returns-in-Some-eq83 c =
+    let parts : c.args.words.now ≡ c.in-Some.first.now ∷ c.in-Some._rest.now = search rules in
+    let byte : slice_get c.in-Some.first.now.now 0 ≡ Some 83 =
+    sym c.first.ensures.value ∙ ap option_copied c.in-Some-eq83.is ∙ ap (λ b. Some b) c.in-Some-eq83.field-0-test in
+    let front = front_of c.in-Some.first.now.now 83 byte in
+    (λ t. rw (parts, front.1) schedule, λ h. refl)
+
+pub returns-in-Some-eq83-2 : goal.returns-in-Some-eq83-2
+returns-in-Some-eq83-2 c =
+    let parts : c.args.words.now ≡ c.in-Some.first.now ∷ c.in-Some._rest.now = search rules in
+    let byte : slice_get c.in-Some.first.now.now 0 ≡ Some 86 =
+    sym c.first.ensures.value ∙ ap option_copied c.in-Some-eq83.is ∙ ap (λ b. Some b) c.in-Some-eq83.field-0-test in
+    let front = front_of c.in-Some.first.now.now 86 byte in
+    (λ t. rw (parts, front.1) variable, λ h. refl)

@@ -1,0 +1,11 @@
+pub mod Heads
+pub mod HistoryContents
+pub mod HistoryLines
+pub mod LineReading
+pub mod Names
+pub mod Numbers
+pub mod Openings
+pub mod Reading
+pub mod RecordContents
+pub mod RecordLines
+pub mod Seats

@@ -1,0 +1,106 @@
+//! What a text begins with, where no line of it has been told apart yet.
+
+ghost use Rattle.std.specs.Prelude.{◌≡◌, ◌<◌, ◌≤◌, ◌^◌, ◌∷◌, length, map, take, IfSome, IsTrue};
+ghost use Rattle.std.specs.Char.{is_ascii_digit};
+ghost use Rattle.std.specs.List.{list_all, position};
+ghost use Rattle.ob_scan.specs.Spelling.{number_value};
+ghost use Rattle.ob_text_words.specs.Words.{lines, words};
+ghost use Rattle.ob_text_reading.specs.LineReading.{BeginsLine, BeginsWithId, BeginsWithWord, ends_word};
+ghost use Rattle.ob_text_values_reading.specs.RecordTexts.{lines_behind};
+
+use ob_text_values_reading::lines::split_line;
+use wf_history::CallId;
+
+/// The most digits that are read without a look at whether the number grows too large.
+const FEW_DIGITS: usize = 10;
+
+/// The first byte of a text and the call that is named behind it and a space, by a process of one digit below `processes`; with
+/// what stands behind the name.
+#[inline(always)]
+pub(crate) fn front_of(processes: usize, text: &[u8]) -> Option<(u8, CallId, &[u8])>
+    ensures { IfSome result (λ r. BeginsLine processes text.now r.0 r.1 r.2.now) }
+{
+    let (kind, behind) = text.split_first()?;
+    let (space, line) = behind.split_first()?;
+    if *space != b' ' {
+        return None;
+    }
+    let (id, rest) = front_id(processes, line)?;
+    Some((*kind, id, rest))
+}
+
+/// The call that a text names first, by a process of one digit below `processes`, and what stands behind its digits.
+#[inline(always)]
+pub(crate) fn front_id(processes: usize, text: &[u8]) -> Option<(CallId, &[u8])>
+    ensures { IfSome result (λ r. BeginsWithId processes text.now r.0 r.1.now) }
+{
+    let (first, behind) = text.split_first()?;
+    let (point, digits) = behind.split_first()?;
+    if !first.is_ascii_digit() || *point != b'.' {
+        return None;
+    }
+    let process = usize::from(*first - b'0');
+    if process >= processes {
+        return None;
+    }
+    let (number, count) = front_number(digits);
+    if count == 0 {
+        return None;
+    }
+    Some((CallId { process, number }, &digits[count..]))
+}
+
+/// The number that the first digits of a text spell, few at most, and how many they are.
+#[inline(always)]
+fn front_number(text: &[u8]) -> (u64, usize)
+    ensures within { result.1 ≤ length text.now }
+    ensures digits { IsTrue (list_all is_ascii_digit (take result.1 text.now)) }
+    ensures spells { number_value (take result.1 text.now) ≡ result.0 }
+    ensures small { result.0 < 10 ^ 10 }
+{
+    let most = text.len().min(FEW_DIGITS);
+    let mut value: u64 = 0;
+    let mut count = 0;
+    while count < most && text[count].is_ascii_digit() {
+        value = value * 10 + u64::from(text[count] - b'0');
+        count += 1;
+    }
+    (value, count)
+}
+
+/// The word that a text begins with, and what stands behind it: a blank or a line feed first.
+#[inline(always)]
+pub(crate) fn front_word(text: &[u8]) -> Option<(&[u8], &[u8])>
+    ensures { IfSome result (λ r. BeginsWithWord text.now r.0.now r.1.now) }
+{
+    let place = end_in(text)?;
+    if place == 0 {
+        return None;
+    }
+    Some((&text[..place], &text[place..]))
+}
+
+/// The place of the first blank or line feed.
+#[inline(always)]
+fn end_in(text: &[u8]) -> Option<usize>
+    ensures { result ≡ position (λ b. ends_word b) text.now }
+{
+    text.iter().position(|byte| ends_word(*byte))
+}
+
+fn ends_word(byte: u8) -> bool
+    ensures { result ≡ ends_word byte }
+{
+    matches!(byte, b' ' | b'\t' | b'\r' | b'\n')
+}
+
+/// The rest of a line that mostly ends here, and the text behind its line feed, if it has one.
+#[inline(always)]
+pub(crate) fn rest_of_line(text: &[u8]) -> (&[u8], Option<&[u8]>)
+    ensures { map words (lines text.now) ≡ words result.0.now ∷ lines_behind result.1 }
+{
+    match text.split_first() {
+        Some((b'\n', rest)) => (&text[..0], Some(rest)),
+        _ => split_line(text),
+    }
+}

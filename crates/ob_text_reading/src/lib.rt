@@ -1,0 +1,25 @@
+//! Records and histories read: what the text of a run tells, and what a text tells that anybody may have recorded, of whatever implementation.
+//!
+//! One may rely on the clauses of the public functions, which are in the words of `specs/`: what is read, and each fault of form with its place.
+#![tactic(auto)]
+
+pub mod calls;
+mod event;
+mod front;
+pub mod head;
+pub mod history_reading;
+pub mod id;
+mod kind;
+pub mod laws;
+pub mod line;
+mod names;
+mod number;
+pub mod opening;
+mod reader;
+pub mod record_reading;
+pub mod splitting;
+pub mod taking;
+mod written;
+
+pub use history_reading::{ReadHistory, read_history};
+pub use record_reading::{ReadRecord, RecordFault, read_record};

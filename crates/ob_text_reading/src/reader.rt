@@ -1,0 +1,317 @@
+//! What the lines so far have told, and one more of them.
+
+ghost use Rattle.std.specs.Prelude.{◌≡◌, ◌↔◌, ◌<◌, ◌∷◌, ◌++◌, [], map, option_map, slice_get, IfOk, IsTrue, OnOk};
+ghost use Rattle.ob_checked.specs.CheckedModule.{program_in};
+ghost use Rattle.ob_checked.specs.View.{table_of, variable_of};
+ghost use Rattle.ob_meaning.specs.ByPositionStore.{Holds};
+ghost use Rattle.ob_store.specs.View.{value_in, variables_in};
+ghost use Rattle.ob_text_reading.specs.HistoryLines.{IsAnyCount};
+ghost use Rattle.ob_text_reading.specs.Names.{MayCome, events_of};
+ghost use Rattle.ob_text_reading.specs.Reading.{FindsProcess, Leads, LeadsAs, NamesCalls, at_stage, at_start, event_said, is_opened, place};
+ghost use Rattle.ob_text_reading.specs.HistoryContents.{heard_of};
+ghost use Rattle.ob_text_reading.specs.declared.kind.LineKind.TheVariants as Kinds;
+ghost use Rattle.ob_text_words.specs.Finding.{FindsAs};
+ghost use Rattle.ob_text_words.specs.Words.{words};
+
+use crate::event::{PROCESS_NUMBERS, Said, read_event};
+use crate::head::read_budget;
+use crate::id::are_ids;
+use crate::kind::{LineKind, Stage, kind_of};
+use crate::names::NamedCalls;
+use crate::opening::read_opening;
+use crate::splitting::is_tail_line;
+use ob_checked::checked::Checked;
+use ob_checked::program::Variable;
+use ob_checked::types::Types;
+use ob_interface::NoMemory;
+use ob_store::value::Value;
+use ob_text_values_reading::title::read_title;
+use ob_text_values_reading::words::next_word;
+use ob_text_words::numbers::read_process;
+use ob_text_words::words::words_of;
+use std::alloc::{AllocError, Global};
+
+/// What the lines so far have told.
+#[derive(Drop)]
+pub(crate) struct Reader {
+    pub(crate) stage: Stage,
+    pub(crate) budget: Option<u64>,
+    pub(crate) values: Vec<Value>,
+    pub(crate) calls: NamedCalls,
+}
+
+impl Reader {
+    /// Before the first line.
+    pub(crate) fn new(alloc: Global) -> Result<Reader, AllocError>
+        ensures { IfOk result (λ r. heard_of «r» ≡ at_start) }
+    {
+        Ok(Reader {
+            stage: Stage::Start,
+            budget: None,
+            values: Vec::new(alloc),
+            calls: NamedCalls::new(alloc)?,
+        })
+    }
+
+    /// Whether none of the variables has an opening, or each one.
+    pub(crate) fn is_opened(&self, checked: &Checked) -> bool
+        ensures { result ≡ is_opened (program_in checked.now).variables (variables_in self.now.values.items) }
+    {
+        self.values.is_empty() || self.values.len() == checked.program().variables.len()
+    }
+
+    /// Takes a line up; `None` where it may not stand there. Words that say values are put in place of those that the list has. It
+    /// stands in the loop over the lines, so that no line moves all that is known.
+    #[inline(always)]
+    pub(crate) fn take_line<'a>(
+        self,
+        alloc: Global,
+        checked: &Checked,
+        line: &'a [u8],
+        list: &mut Vec<&'a [u8]>,
+    ) -> Result<Option<Reader>, NoMemory>
+        ensures { IfOk result (FindsAs heard_of (Leads (program_in checked.now) (heard_of self) (words line.now))) }
+    {
+        match kind_of(line) {
+            LineKind::Comment => Ok(Some(self)),
+            LineKind::Title => self.take_title(alloc, checked, line),
+            LineKind::Count => self.take_count(alloc, checked, line),
+            LineKind::Budget => self.take_budget(alloc, checked, line),
+            LineKind::Opening => self.take_opening(alloc, checked, line),
+            LineKind::Event => self.take_event(alloc, checked, line, list),
+            LineKind::Applied => Ok(self.take_applied(checked, line)),
+            LineKind::Order => Ok(self.take_order(checked, line)),
+            LineKind::Tail => self.take_tail(alloc, checked, line),
+            LineKind::Other => Ok(None),
+        }
+    }
+
+    /// The same, at the next stage.
+    fn at(self, stage: Stage) -> Reader
+        ensures { heard_of result ≡ at_stage stage (heard_of self) }
+    {
+        Reader {
+            stage,
+            budget: self.budget,
+            values: self.values,
+            calls: self.calls,
+        }
+    }
+
+    fn take_title(
+        self,
+        alloc: Global,
+        checked: &Checked,
+        line: &[u8],
+    ) -> Result<Option<Reader>, NoMemory>
+        ensures { IfOk result (FindsAs heard_of (LeadsAs (program_in checked.now) (heard_of self) (words line.now) Kinds.Title)) }
+    {
+        if self.stage.place() >= Stage::Title.place() {
+            return Ok(None);
+        }
+        let words = words_of(alloc, line)?;
+        match read_title(&words) {
+            Some(_version) => Ok(Some(self.at(Stage::Title))),
+            None => Ok(None),
+        }
+    }
+
+    fn take_count(
+        self,
+        alloc: Global,
+        checked: &Checked,
+        line: &[u8],
+    ) -> Result<Option<Reader>, NoMemory>
+        ensures { IfOk result (FindsAs heard_of (LeadsAs (program_in checked.now) (heard_of self) (words line.now) Kinds.Count)) }
+    {
+        if self.stage.place() >= Stage::Count.place() {
+            return Ok(None);
+        }
+        let words = words_of(alloc, line)?;
+        if !is_count(&words) {
+            return Ok(None);
+        }
+        Ok(Some(self.at(Stage::Count)))
+    }
+
+    fn take_budget(
+        self,
+        alloc: Global,
+        checked: &Checked,
+        line: &[u8],
+    ) -> Result<Option<Reader>, NoMemory>
+        ensures { IfOk result (FindsAs heard_of (LeadsAs (program_in checked.now) (heard_of self) (words line.now) Kinds.Budget)) }
+    {
+        if self.stage.place() >= Stage::Budget.place() {
+            return Ok(None);
+        }
+        let words = words_of(alloc, line)?;
+        let Some(budget) = read_budget(&words) else {
+            return Ok(None);
+        };
+        Ok(Some(Reader {
+            stage: Stage::Budget,
+            budget: Some(budget),
+            values: self.values,
+            calls: self.calls,
+        }))
+    }
+
+    fn take_opening(
+        self,
+        alloc: Global,
+        checked: &Checked,
+        line: &[u8],
+    ) -> Result<Option<Reader>, NoMemory>
+        ensures { IfOk result (FindsAs heard_of (LeadsAs (program_in checked.now) (heard_of self) (words line.now) Kinds.Opening)) }
+    {
+        if self.stage.place() >= Stage::Events.place() {
+            return Ok(None);
+        }
+        let program = checked.program();
+        let variables = program.variables.as_slice();
+        let Some(variable) = variable_at(&program.types, variables, self.values.len()) else {
+            return Ok(None);
+        };
+        let Some(value) = read_opening(alloc, &program.types, variable, line)? else {
+            return Ok(None);
+        };
+        let mut values = self.values;
+        push_value(&mut values, value)?;
+        Ok(Some(Reader {
+            stage: Stage::Openings,
+            budget: self.budget,
+            values,
+            calls: self.calls,
+        }))
+    }
+
+    fn take_event<'a>(
+        self,
+        alloc: Global,
+        checked: &Checked,
+        line: &'a [u8],
+        list: &mut Vec<&'a [u8]>,
+    ) -> Result<Option<Reader>, NoMemory>
+        ensures { IfOk result (FindsAs heard_of (LeadsAs (program_in checked.now) (heard_of self) (words line.now) Kinds.Event)) }
+    {
+        if !self.may_go_on(checked) {
+            return Ok(None);
+        }
+        let Some(said) = read_event(alloc, checked.exports(), &self.calls, line, list)? else {
+            return Ok(None);
+        };
+        let calls = note(self.calls, said)?;
+        Ok(Some(Reader {
+            stage: Stage::Events,
+            budget: self.budget,
+            values: self.values,
+            calls,
+        }))
+    }
+
+    fn take_applied(self, checked: &Checked, line: &[u8]) -> Option<Reader>
+        ensures { FindsAs heard_of (LeadsAs (program_in checked.now) (heard_of self) (words line.now) Kinds.Applied) result }
+    {
+        if !self.may_go_on(checked) || !names_calls(b'A', line) {
+            return None;
+        }
+        Some(self.at(Stage::Events))
+    }
+
+    fn take_order(self, checked: &Checked, line: &[u8]) -> Option<Reader>
+        ensures { FindsAs heard_of (LeadsAs (program_in checked.now) (heard_of self) (words line.now) Kinds.Order) result }
+    {
+        if !self.may_go_on(checked) || !names_calls(b'O', line) {
+            return None;
+        }
+        Some(self.at(Stage::Order))
+    }
+
+    /// Whether events or the order may stand next.
+    fn may_go_on(&self, checked: &Checked) -> bool
+        ensures { IsTrue result ↔ ((place self.now.stage < 6) × IsTrue (is_opened (program_in checked.now).variables (variables_in self.now.values.items))) }
+    {
+        self.stage.place() < Stage::Order.place() && self.is_opened(checked)
+    }
+
+    fn take_tail(
+        self,
+        alloc: Global,
+        checked: &Checked,
+        line: &[u8],
+    ) -> Result<Option<Reader>, NoMemory>
+        ensures { IfOk result (FindsAs heard_of (LeadsAs (program_in checked.now) (heard_of self) (words line.now) Kinds.Tail)) }
+    {
+        if self.stage.place() < Stage::Order.place() {
+            return Ok(None);
+        }
+        if !is_tail_line(alloc, line)? {
+            return Ok(None);
+        }
+        Ok(Some(self))
+    }
+}
+
+/// Whether a line tells how many processes there are: `n N`.
+fn is_count(words: &[&[u8]]) -> bool
+    ensures { IsTrue result ↔ IsAnyCount (map (λ w. w.now) words.now) }
+{
+    let Some((first, rest)) = words.split_first() else {
+        return false;
+    };
+    if *first != b"n".as_slice() {
+        return false;
+    }
+    only_process(rest).is_some()
+}
+
+/// The number of at most nine digits that the only word says.
+fn only_process(words: &[&[u8]]) -> Option<usize>
+    ensures { FindsProcess (map (λ w. w.now) words.now) result }
+{
+    let [word] = words else {
+        return None;
+    };
+    read_process(word)
+}
+
+/// Whether a line is this letter and names of calls.
+fn names_calls(letter: u8, line: &[u8]) -> bool
+    ensures { IsTrue result ↔ NamesCalls letter (words line.now) }
+{
+    let Some((first, rest)) = next_word(line) else {
+        return false;
+    };
+    let [byte] = first else {
+        return false;
+    };
+    *byte == letter && are_ids(PROCESS_NUMBERS, rest)
+}
+
+/// The variable of a number.
+fn variable_at<'a>(types: &Types, variables: &'a [Variable], number: usize) -> Option<&'a Variable>
+    ensures { option_map (λ v. variable_of (table_of types.now) v.now) result ≡ slice_get (map (variable_of (table_of types.now)) variables.now) number }
+{
+    let _types = types;
+    variables.get(number)
+}
+
+/// Appends a value.
+fn push_value(values: &mut Vec<Value>, value: Value) -> Result<(), AllocError>
+    ensures { OnOk result (variables_in values.new.items ≡ variables_in values.old.items ++ Holds (value_in «value») ∷ []) }
+{
+    values.push(value)?;
+    Ok(())
+}
+
+/// The calls with one more event.
+fn note(calls: NamedCalls, said: Said) -> Result<NamedCalls, NoMemory>
+    requires { MayCome (events_of calls) (event_said said) }
+    ensures { IfOk result (λ c. events_of c ≡ events_of calls ++ event_said said ∷ []) }
+{
+    match said {
+        Said::Begin(id, call) => calls.begin(id, call),
+        Said::End(id, reply) => calls.end(id, reply),
+    }
+}

@@ -1,4 +1,0 @@
-pub mod Values
-pub mod Variables
-pub mod Named
-pub mod Laws

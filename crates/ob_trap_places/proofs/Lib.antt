@@ -1,4 +1,0 @@
-pub mod Landing
-pub mod PlacedValues
-pub mod PlacedRuns
-pub mod PlacedCalls

@@ -1,3 +1,0 @@
-pub mod WithoutSites
-pub mod Explained
-pub mod CallSites

@@ -1,4 +1,0 @@
-pub mod Site
-pub mod OverStore
-pub mod Object
-pub mod Laws

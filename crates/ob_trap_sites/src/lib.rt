@@ -1,4 +1,0 @@
-//! Where each trap of the meaning comes from, and what it could not do there.
-#![tactic(auto)]
-
-pub mod laws;

@@ -1,2 +1,0 @@
-pub mod TrapSentences
-pub mod Openings

@@ -1,0 +1,13 @@
+pub mod CallSite
+pub mod CallSites
+pub mod Chains
+pub mod Explained
+pub mod Found
+pub mod Landing
+pub mod PlacedCalls
+pub mod PlacedRuns
+pub mod PlacedValues
+pub mod Sited
+pub mod Steps
+pub mod Turns
+pub mod WithoutSites

@@ -1,0 +1,10 @@
+pub mod Bodies
+pub mod Object
+pub mod OverStore
+pub mod Places
+pub mod PlacesLaws
+pub mod Reaching
+pub mod Running
+pub mod Sequence
+pub mod Site
+pub mod SitesLaws

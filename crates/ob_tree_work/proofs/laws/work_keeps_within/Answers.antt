@@ -1,5 +1,0 @@
-use Rattle.ob_tree_work.proofs.Theorem.{work_keeps_within}
-use Rattle.ob_tree_work.proofs.laws.work_keeps_within.Goals as goal
-
-pub returns : goal.returns
-returns c = work_keeps_within

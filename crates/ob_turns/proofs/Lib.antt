@@ -1,4 +1,0 @@
-pub mod MoreTurns
-pub mod Counting
-pub mod Calls
-pub mod Least

@@ -1,4 +1,0 @@
-pub mod CheckingProcedures
-pub mod CheckingModules
-pub mod ModuleText
-pub mod ByScopes

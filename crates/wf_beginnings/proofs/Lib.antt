@@ -1,3 +1,0 @@
-pub mod Nexts
-pub mod Counted
-pub mod OpenCalls

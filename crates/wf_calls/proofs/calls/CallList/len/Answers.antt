@@ -1,7 +1,0 @@
-use Rattle.std.proofs.Common.{ap, arith, length}
-use Rattle.wf_calls.specs.CallsKept.{KeptCalls}
-use Rattle.wf_calls.proofs.CallsKept.{length-calls_from}
-use Rattle.wf_calls.proofs.calls.CallList.len.Goals as goal
-
-pub returns : goal.returns
-returns c = omega (arith, c.len.ensures, length-calls_from 0 c.self.inside.heads.items c.self.inside.arguments.items, ap (λ (k : KeptCalls). length k.calls) c.self.view_is)

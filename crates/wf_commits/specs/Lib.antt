@@ -1,4 +1,0 @@
-pub mod Helping
-pub mod Order
-pub mod Fetched
-pub mod Commits

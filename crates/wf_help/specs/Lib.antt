@@ -1,4 +1,0 @@
-pub mod Alone
-pub mod Contents
-pub mod Helps
-pub mod Served

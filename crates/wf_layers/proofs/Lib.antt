@@ -1,9 +1,0 @@
-pub mod Advancing
-pub mod Arriving
-pub mod Backing
-pub mod Fronting
-pub mod Interning
-pub mod Layering
-pub mod Listing
-pub mod Noding
-pub mod Order

@@ -1,8 +1,0 @@
--- Nothing is said.
-use Rattle.std.proofs.Common.{refl}
-use Rattle.wf_layers.specs.Graph.{rows_in}
-use Rattle.wf_layers.proofs.Fronting.{front_first}
-use Rattle.wf_layers.proofs.search.begin.Goals as goal
-
-pub returns-clause-front : goal.returns-clause-front
-returns-clause-front c = front_first (rows_in c.args.ground.now.rows.now) c.args.ground.now.processes _ c.in_ok-lists.ensures c.in_ok-layer.ensures c.new-trail.ensures.items refl

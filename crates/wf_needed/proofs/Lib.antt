@@ -1,4 +1,0 @@
-mod Legality
-mod Placing
-mod Replaying
-mod Rounds

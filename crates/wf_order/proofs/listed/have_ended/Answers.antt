@@ -1,0 +1,17 @@
+-- One call more.
+use Rattle.std.proofs.Common.{List, subst}
+use Rattle.std.proofs.lemmas.List.{take_all}
+use Rattle.std.proofs.lemmas.List.Elements.{All-more}
+use Rattle.wf_history.specs.declared.event.CallId.{CallId}
+use Rattle.wf_order.specs.Listed.{NoneIsOpen}
+use Rattle.wf_order.specs.Needed.{IsOpen}
+use Rattle.wf_order.proofs.listed.have_ended.Goals as goal
+
+pub loop-id-preserved : goal.loop-id-preserved
+loop-id-preserved c = λ history processes are.
+    All-more (λ (id : CallId). ¬ IsOpen history id) c.args.order.now c.loop-id.id-index _ c.loop-id-test.true (c.loop-id.invariant history processes are)
+    (c.has_ended.ensures history processes are c.if-not-has_ended.false)
+
+pub returns : goal.returns
+returns c = λ history processes are yes.
+    subst (λ (ids : List CallId). NoneIsOpen history ids) (take_all c.loop-id.id-index c.args.order.now c.loop-id-test.false) (c.loop-id.invariant history processes are)

@@ -1,0 +1,3 @@
+pub mod MergesRuns
+pub mod Shown
+pub mod WholeRuns

@@ -1,6 +1,0 @@
-use Rattle.wf_shown.proofs.Shows.{every_merge}
-use Rattle.wf_shown.proofs.laws.merges_are_shown.Goals as goal
-
-pub returns : goal.returns
-returns g c = λ e.
-    let i = g.E.Engine in every_merge (i.meaning e) (i.lawful e) (i.fits e) (i.ready e) (i.effect e) (g.met.E.Engine.law e)

@@ -1,4 +1,0 @@
-pub mod Calling
-pub mod Lists
-pub mod Matching
-pub mod Telling
