@@ -14,7 +14,7 @@ use Rattle.ob_typing.specs.Scopes.{Environment}
 use Rattle.ob_typing.specs.Expressions
 use Rattle.ob_typing.specs.Expressions.{Use, InStatement, InConstant, NotComputed, known, behind, value_behind, with_sign, value_signed, value_compared, HasType, AreOperands}
 use Rattle.ob_meaning.specs.ByNameStore.{Store}
-use Rattle.ob_meaning.specs.ByNameEvaluation
+use Rattle.ob_meaning.specs.ByNameEvaluation as Evaluation
 use Rattle.ob_meaning.specs.ByNameEvaluation.{value_of}
 
 -- what is not computed has no known value

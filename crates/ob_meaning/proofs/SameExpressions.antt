@@ -18,7 +18,7 @@ use Rattle.ob_meaning.specs.OverStore as OverStore
 use Rattle.ob_meaning.specs.ByNameEvaluation as Meanings
 use Rattle.ob_meaning.specs.ByPositionValue.{Value, Single, Parts, scalar_of}
 use Rattle.ob_meaning.specs.ByPositionStore.{Place, Held, Holds, Refers, Store, place_held, place_owned, place_of_slot, further_in, value_at, running}
-use Rattle.ob_meaning.specs.ByPositionEvaluation
+use Rattle.ob_meaning.specs.ByPositionEvaluation as Evaluation
 use Rattle.ob_meaning.specs.Resolved.{IsAt, HasField, HasElements, declared_by, IsOf, AreOf, IsVariable, Lead, IsActual, Fit}
 use Rattle.ob_meaning.specs.Same.{SameScalar, SameSingle, SameValue, SameStep, SamePath, Scopes, scope_at, SamePlace, SameHeld, SameHanded, SameStore, SameEvaluated}
 use Rattle.ob_meaning.proofs.SameValues.{path_both}
