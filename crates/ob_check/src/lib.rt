@@ -10,9 +10,7 @@ pub mod modules;
 pub mod parts;
 pub mod procedures;
 
-pub use crate::TextFault;
-pub use crate::checked_text::checked_text;
-pub use crate::modules::check;
-pub use checked_text::TextFault;
+pub use checked_text::{TextFault, checked_text};
+pub use modules::check;
 pub use ob_checked::checked::Checked;
 pub use ob_scopes::fault::CheckFault;

@@ -11,6 +11,5 @@ pub mod layout;
 mod shapes;
 mod temporaries;
 
-pub use crate::{Layout, encode};
 pub use encoding::encode;
 pub use layout::Layout;

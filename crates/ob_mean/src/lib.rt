@@ -16,10 +16,10 @@ pub mod sequence;
 pub mod statements;
 pub mod turns;
 
-pub use crate::call::{Call, Reply};
-pub use crate::object::interpret;
-pub use crate::opening::{OpenFault, opening};
-pub use crate::sequence::{SeqFault, sequence};
+pub use call::{Call, Reply};
 pub use ob_interface::scalar::Scalar;
 pub use ob_store::state::State;
 pub use ob_store::value::Value;
+pub use object::interpret;
+pub use opening::{OpenFault, opening};
+pub use sequence::{SeqFault, sequence};
