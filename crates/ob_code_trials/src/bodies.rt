@@ -9,7 +9,7 @@ use ob_interface::scalar::Scalar;
 use ob_layout::{Layout, encode};
 use ob_mean::call::{Call, Reply};
 use ob_mean::object::interpret;
-use ob_mean::opening::opening;
+use ob_mean::openings::opening;
 use ob_store::state::State;
 use ob_syntax::reader::read;
 use std::alloc::Global;

@@ -6,8 +6,8 @@ use Rattle.ob_diagnosis.specs.Remarks.{IsCheckRemark, IsParseRemark, IsScanRemar
 use Rattle.ob_messages.specs.Remarks.{Remark}
 use Rattle.ob_explained.specs.NumberFaults.{budget_explanation, long_code_explanation, long_text_explanation, processes_explanation}
 use Rattle.ob_explained.specs.CallRemarks.{IsScriptRemark}
-use Rattle.ob_check.specs.declared.checked_text.TextFault.{TextFault}
-use Rattle.ob_check.specs.declared.checked_text.TextFault.TheVariants as Texts
+use Rattle.ob_check.specs.declared.texts.TextFault.{TextFault}
+use Rattle.ob_check.specs.declared.texts.TextFault.TheVariants as Texts
 use Rattle.ob_object_compile.specs.declared.compiling.CompileFault.{CompileFault}
 use Rattle.ob_object_compile.specs.declared.compiling.CompileFault.TheVariants as Modules
 use Rattle.ob_object_calls.specs.declared.sequential.SeqTextFault.{SeqTextFault}

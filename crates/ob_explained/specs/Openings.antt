@@ -3,8 +3,8 @@ use Rattle.std.specs.Prelude.{◌≡◌, ℕ, List, ◌++◌, Option, None, Some
 use Rattle.ob_messages.specs.Explanations.{explanation}
 use Rattle.ob_grammar.specs.Texts.{IsTextOf}
 use Rattle.ob_grammar.specs.Tree.{Module}
-use Rattle.ob_mean.specs.declared.opening.OpenFault.{OpenFault}
-use Rattle.ob_mean.specs.declared.opening.OpenFault.TheVariants as Open
+use Rattle.ob_mean.specs.declared.openings.OpenFault.{OpenFault}
+use Rattle.ob_mean.specs.declared.openings.OpenFault.TheVariants as Open
 use Rattle.ob_meaning.specs.ByNameObject.{OpeningTraps, most_turns}
 use Rattle.ob_traps.specs.Places.{place_of}
 use Rattle.ob_traps.specs.Object.{site_of_opening}

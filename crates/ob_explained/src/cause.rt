@@ -6,7 +6,7 @@ ghost use Rattle.ob_explained.specs.TrapSentences.{index_text, indices_text, ope
 ghost use Rattle.ob_traps.specs.Reaching.{cause_of};
 
 use ob_interface::scalar::Scalar;
-use ob_mean::opening::MOST_TURNS;
+use ob_mean::openings::MOST_TURNS;
 use ob_text_words::numbers::push_number;
 use ob_text_words::scalar_words::push_value;
 use ob_traps::site::Cause;

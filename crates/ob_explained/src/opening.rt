@@ -13,10 +13,10 @@ ghost use Rattle.ob_explained.specs.Openings.{IsOpenExplanation, IsTrapExplanati
 
 use crate::cause::{Runner, push_cause};
 use ob_check::TextFault;
-use ob_check::checked_text::checked_text;
+use ob_check::texts::checked_text;
 use ob_checked::checked::Checked;
 use ob_grammar::tree::ModuleTree;
-use ob_mean::opening::OpenFault;
+use ob_mean::openings::OpenFault;
 use ob_messages::explanation::explanation;
 use ob_messages::remark::Remark;
 use ob_text_words::numbers::push_number;

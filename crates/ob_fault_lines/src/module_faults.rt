@@ -5,7 +5,7 @@ ghost use Rattle.ob_fault_lines.specs.ModuleFaultLines.{at_place, open_line, par
 ghost use Rattle.ob_text_words.specs.Appending.{GoesOn};
 
 use ob_check::TextFault;
-use ob_mean::opening::OpenFault;
+use ob_mean::openings::OpenFault;
 use ob_parser::parser::ParseFault;
 use ob_scan::ScanFault;
 use ob_scan::scanner::LONGEST_TEXT;

@@ -1,10 +1,10 @@
 -- What each fault of an opening and of calls made one at a time says.
 use Rattle.std.specs.Prelude.{ℕ}
 use Rattle.ob_typing.specs.Program.{Program}
-use Rattle.ob_mean.specs.declared.opening.OpenFault.{OpenFault}
-use Rattle.ob_mean.specs.declared.opening.OpenFault.TheVariants as Open
-use Rattle.ob_mean.specs.declared.sequence.SeqFault.{SeqFault}
-use Rattle.ob_mean.specs.declared.sequence.SeqFault.TheVariants as Seq
+use Rattle.ob_mean.specs.declared.openings.OpenFault.{OpenFault}
+use Rattle.ob_mean.specs.declared.openings.OpenFault.TheVariants as Open
+use Rattle.ob_mean.specs.declared.sequences.SeqFault.{SeqFault}
+use Rattle.ob_mean.specs.declared.sequences.SeqFault.TheVariants as Seq
 use Rattle.ob_mean.specs.declared.places.Stop.{Stop}
 use Rattle.ob_mean.specs.declared.places.Stop.TheVariants as Stops
 use Rattle.ob_mean.specs.Sequences.{OpeningTraps}

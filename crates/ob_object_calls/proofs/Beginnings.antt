@@ -3,8 +3,8 @@ use Rattle.std.proofs.Common.{◌≡◌, ◌∙◌, refl, subst, sym, List, [], 
 use Rattle.ob_meaning.specs.Resolved.{IsResolved, AreDistinct, as_parameter, module_scope}
 use Rattle.ob_meaning.specs.Same.{SameActivation, SameState, Scopes}
 use Rattle.ob_mean.specs.Faults.{IsOpenFault}
-use Rattle.ob_mean.specs.declared.opening.OpenFault.{OpenFault}
-use Rattle.ob_mean.specs.declared.opening.OpenFault.TheVariants as Open
+use Rattle.ob_mean.specs.declared.openings.OpenFault.{OpenFault}
+use Rattle.ob_mean.specs.declared.openings.OpenFault.TheVariants as Open
 use Rattle.ob_meaning.specs.ByNameObject.{State}
 use Rattle.ob_meaning.specs.ByNameStore as Names
 use Rattle.ob_object_calls.proofs.Openings as Openings

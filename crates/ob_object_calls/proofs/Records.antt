@@ -1,7 +1,7 @@
 -- What is found of a record's text, as what is answered.
 use Rattle.std.proofs.Common.{◌≡◌, ◌≢◌, List, ℕ, refl, ap, ◌∙◌, subst, ◌⊎◌, inl, inr}
-use Rattle.ob_mean.specs.declared.opening.OpenFault.{OpenFault}
-use Rattle.ob_mean.specs.declared.opening.OpenFault.TheVariants as Open
+use Rattle.ob_mean.specs.declared.openings.OpenFault.{OpenFault}
+use Rattle.ob_mean.specs.declared.openings.OpenFault.TheVariants as Open
 use Rattle.ob_object_run.specs.LegalOrder.{CallEnds, IsLegalOrder}
 use Rattle.ob_object_run.specs.OrderFaults.{IsOrderFault}
 use Rattle.ob_object_run.specs.declared.order.OrderFault.{OrderFault}

@@ -5,7 +5,7 @@ use Rattle.ob_meaning.specs.Same.{SameState}
 use Rattle.ob_code_correct.proofs.Named.{names_simulate, positions_simulate}
 use Rattle.ob_code_correct.specs.Compiled.{Fits}
 use Rattle.ob_code_correct.specs.Named.{CallMeans}
-use Rattle.ob_mean.specs.declared.opening.OpenFault.TheVariants as Open
+use Rattle.ob_mean.specs.declared.openings.OpenFault.TheVariants as Open
 use Rattle.ob_meaning.specs.ByNameObject.{State}
 use Rattle.ob_object_run.specs.LegalOrder.{CallEnds}
 use Rattle.ob_object_calls.proofs.VerifyFitting.{calls_fit}

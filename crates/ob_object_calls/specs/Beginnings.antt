@@ -2,8 +2,8 @@
 use Rattle.std.specs.Prelude.{◌≡◌, ℕ, Option, Some, None}
 use Rattle.ob_meaning.specs.Same.{SameState}
 use Rattle.ob_mean.specs.Sequences as Positions
-use Rattle.ob_mean.specs.declared.opening.OpenFault.{OpenFault}
-use Rattle.ob_mean.specs.declared.opening.OpenFault.TheVariants as Open
+use Rattle.ob_mean.specs.declared.openings.OpenFault.{OpenFault}
+use Rattle.ob_mean.specs.declared.openings.OpenFault.TheVariants as Open
 use Rattle.ob_meaning.specs.ByNameObject as Named
 use Rattle.ob_meaning.specs.ByPositionStore.{Activation}
 use Rattle.ob_typing.specs.Program.{Program}

@@ -7,7 +7,7 @@ ghost use Rattle.ob_store.specs.View.{state_of};
 ghost use Rattle.ob_text_reading.specs.RecordContents.{carried_of};
 
 use ob_checked::checked::Checked;
-use ob_mean::opening::{OpenFault, opening};
+use ob_mean::openings::{OpenFault, opening};
 use ob_store::state::State;
 use std::alloc::Global;
 

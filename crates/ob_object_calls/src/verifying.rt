@@ -12,12 +12,12 @@ ghost use Rattle.ob_object_calls.specs.declared.verifying.VerifyFault.TheVariant
 
 use crate::beginning::beginning;
 use crate::verify_coded::by_code;
-use ob_check::checked_text::{TextFault, checked_text};
+use ob_check::texts::{TextFault, checked_text};
 use ob_checked::checked::Checked;
 use ob_code_correct::kept_laws::openings_are_states;
 use ob_code_correct::well_formed_laws::modules_are_well_formed;
 use ob_interface::NoMemory;
-use ob_mean::opening::OpenFault;
+use ob_mean::openings::OpenFault;
 use ob_object_run::{OrderFault, check_order, check_order_by};
 use ob_scan::scanner::LONGEST_TEXT;
 use ob_text_reading::{RecordFault, read_record};

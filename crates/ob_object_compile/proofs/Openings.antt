@@ -12,8 +12,8 @@ use Rattle.ob_meaning.specs.Resolved.{module_scope, IsResolved}
 use Rattle.ob_meaning.specs.Same.{SameOutcome, SameState}
 use Rattle.ob_mean.specs.Faults.{IsOpenFault}
 use Rattle.ob_mean.specs.Sequences as Positions
-use Rattle.ob_mean.specs.declared.opening.OpenFault.{OpenFault}
-use Rattle.ob_mean.specs.declared.opening.OpenFault.TheVariants as Open
+use Rattle.ob_mean.specs.declared.openings.OpenFault.{OpenFault}
+use Rattle.ob_mean.specs.declared.openings.OpenFault.TheVariants as Open
 use Rattle.ob_meaning.specs.ByNameObject as Objects
 use Rattle.ob_meaning.specs.ByNameObject.{State, most_turns}
 use Rattle.ob_meaning.specs.ByNameStatements as Meanings

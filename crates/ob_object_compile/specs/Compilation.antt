@@ -12,8 +12,8 @@ use Rattle.ob_code_scheme.specs.Scheme.{code_of}
 use Rattle.ob_grammar.specs.Texts.{IsTextOf}
 use Rattle.ob_grammar.specs.Tree
 use Rattle.ob_interface.specs.Processes.{most_processes}
-use Rattle.ob_mean.specs.declared.opening.OpenFault.{OpenFault}
-use Rattle.ob_mean.specs.declared.opening.OpenFault.TheVariants as Open
+use Rattle.ob_mean.specs.declared.openings.OpenFault.{OpenFault}
+use Rattle.ob_mean.specs.declared.openings.OpenFault.TheVariants as Open
 use Rattle.ob_meaning.specs.ByNameObject as Named
 use Rattle.ob_meaning.specs.ByNameObject.{most_turns}
 use Rattle.ob_object_compile.specs.Asked.{Asked, Beginning, BeginsWith, ByBody, ByValues, is_carried}

@@ -15,7 +15,7 @@ ghost use Rattle.ob_picture_chart.specs.ChartView.{mark_of};
 use crate::faults::DrawHistoryFault;
 use crate::marking::{Marked, mark_of};
 use crate::showing::{Shown, shown_of};
-use ob_check::checked_text::checked_text;
+use ob_check::texts::checked_text;
 use ob_checked::checked::Checked;
 use ob_interface::export::Export;
 use ob_object_search::Search;

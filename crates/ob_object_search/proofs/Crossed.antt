@@ -4,14 +4,14 @@ use Rattle.std.proofs.Common.{◌≡◌, ◌≢◌, ℕ, List, ◌++◌, Option,
 use Rattle.ob_meaning.specs.Resolved.{IsResolved}
 use Rattle.ob_meaning.specs.Same.{SameState}
 use Rattle.ob_check.specs.CheckedText.{IsNumberedText, IsTextFault, TellsTextMemoryApart}
-use Rattle.ob_check.specs.declared.checked_text.TextFault.{TextFault}
-use Rattle.ob_check.specs.declared.checked_text.TextFault.TheVariants as Text
+use Rattle.ob_check.specs.declared.texts.TextFault.{TextFault}
+use Rattle.ob_check.specs.declared.texts.TextFault.TheVariants as Text
 use Rattle.ob_code_correct.proofs.Named.{names_simulate, positions_simulate}
 use Rattle.ob_code_correct.specs.Carried.{BegunFit}
 use Rattle.ob_code_correct.specs.Compiled.{Fits}
 use Rattle.ob_code_correct.specs.Named.{CallMeans}
 use Rattle.ob_interface.specs.declared.scalar.Scalar.{Scalar}
-use Rattle.ob_mean.specs.declared.opening.OpenFault.TheVariants as Open
+use Rattle.ob_mean.specs.declared.openings.OpenFault.TheVariants as Open
 use Rattle.ob_meaning.specs.ByNameObject.{State}
 use Rattle.ob_object_run.specs.LegalOrder.{CallEnds}
 use Rattle.ob_object_search.proofs.Crossing.{IsNamed, IsPlaced, ceases_named}

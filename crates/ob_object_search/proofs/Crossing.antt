@@ -7,7 +7,7 @@ use Rattle.ob_code_correct.specs.Carried.{BegunFit}
 use Rattle.ob_code_correct.specs.Compiled.{Fits}
 use Rattle.ob_code_correct.specs.Named.{CallMeans}
 use Rattle.ob_interface.specs.Call.{ObjectCall, Reply}
-use Rattle.ob_mean.specs.declared.opening.OpenFault.TheVariants as Open
+use Rattle.ob_mean.specs.declared.openings.OpenFault.TheVariants as Open
 use Rattle.ob_meaning.specs.ByNameObject.{State}
 use Rattle.ob_object_run.specs.LegalOrder.{CallEnds}
 use Rattle.ob_object_search.proofs.Fitting.{calls_fit, front_fits, history_opened}

@@ -20,8 +20,8 @@ use Rattle.ob_object_search.specs.RecordingFaults.{HasManyProcesses, HasRecordin
 use Rattle.ob_object_search.specs.SearchRecords.{IsHistoryRecord, IsRecordFound, IsSame}
 use Rattle.ob_object_search.specs.declared.recording.RecordingFault.{RecordingFault}
 use Rattle.ob_object_search.specs.declared.recording.RecordingFault.TheVariants as Faults
-use Rattle.ob_mean.specs.declared.opening.OpenFault.{OpenFault}
-use Rattle.ob_mean.specs.declared.opening.OpenFault.TheVariants as Open
+use Rattle.ob_mean.specs.declared.openings.OpenFault.{OpenFault}
+use Rattle.ob_mean.specs.declared.openings.OpenFault.TheVariants as Open
 use Rattle.ob_text_reading.specs.declared.record_reading.RecordFault.{RecordFault}
 use Rattle.ob_text_reading.specs.declared.record_reading.RecordFault.TheVariants as Reading
 use Rattle.ob_object_calls.proofs.Beginnings.{beginning_named}

@@ -4,8 +4,8 @@ use Rattle.std.proofs.lemmas.List.{length-map}
 use Rattle.std.proofs.lemmas.Option.{same_Some, slice_get-map, slice_get_within}
 use Rattle.ob_interface.specs.Call.{ObjectCall, Reply}
 use Rattle.ob_interface.specs.declared.scalar.Scalar.{Scalar}
-use Rattle.ob_mean.specs.declared.opening.OpenFault.{OpenFault}
-use Rattle.ob_mean.specs.declared.opening.OpenFault.TheVariants as Open
+use Rattle.ob_mean.specs.declared.openings.OpenFault.{OpenFault}
+use Rattle.ob_mean.specs.declared.openings.OpenFault.TheVariants as Open
 use Rattle.ob_object_run.specs.LegalOrder.{CallEnds}
 use Rattle.ob_object_search.specs.Found.{IsEnoughHere}
 use Rattle.ob_object_search.specs.Searched.{HasBeginning, budget_of}

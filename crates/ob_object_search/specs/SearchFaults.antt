@@ -1,12 +1,12 @@
 -- What each fault says of the bytes of a module and of a history.
 use Rattle.std.specs.Prelude.{◌≡◌, ◌≢◌, ◌⊎◌, ℕ, List, length, Option, Result, IfErr}
 use Rattle.ob_check.specs.CheckedText.{IsNumberedText, IsTextFault}
-use Rattle.ob_check.specs.declared.checked_text.TextFault.{TextFault}
-use Rattle.ob_check.specs.declared.checked_text.TextFault.TheVariants as Text
+use Rattle.ob_check.specs.declared.texts.TextFault.{TextFault}
+use Rattle.ob_check.specs.declared.texts.TextFault.TheVariants as Text
 use Rattle.ob_code_correct.specs.Named.{CallMeans}
 use Rattle.ob_interface.specs.Call.{ObjectCall, Reply}
-use Rattle.ob_mean.specs.declared.opening.OpenFault.{OpenFault}
-use Rattle.ob_mean.specs.declared.opening.OpenFault.TheVariants as Open
+use Rattle.ob_mean.specs.declared.openings.OpenFault.{OpenFault}
+use Rattle.ob_mean.specs.declared.openings.OpenFault.TheVariants as Open
 use Rattle.ob_object_run.specs.LegalOrder.{CallEnds}
 use Rattle.ob_object_search.specs.Searched.{HasBeginning, budget_of}
 use Rattle.ob_object_search.specs.declared.searching.SearchFault.{SearchFault}

@@ -1,9 +1,9 @@
 //! Why there are no orders of parts.
 
-use ob_check::checked_text::TextFault;
+use ob_check::texts::TextFault;
 use ob_interface::NoMemory;
 use ob_interface::scalar::Scalar;
-use ob_mean::opening::OpenFault;
+use ob_mean::openings::OpenFault;
 use ob_text_reading::RecordFault;
 use std::alloc::AllocError;
 use wf_history::CallId;

@@ -20,7 +20,7 @@ ghost use Rattle.wf_history.specs.declared.event.CallId.{CallId};
 use crate::copying::named_history;
 use crate::searching::{budget_of, order_found};
 use crate::{ModuleObject, Search, SearchFault};
-use ob_check::checked_text::{TextFault, checked_text};
+use ob_check::texts::{TextFault, checked_text};
 use ob_checked::checked::Checked;
 use ob_interface::NoMemory;
 use ob_object_calls::beginning::beginning;

@@ -5,7 +5,7 @@ ghost use Rattle.ob_text_reading.specs.RecordLines.{IsBudget, IsCount};
 
 use crate::number::read_only_number;
 use ob_interface::MOST_PROCESSES;
-use ob_mean::opening::MOST_TURNS;
+use ob_mean::openings::MOST_TURNS;
 use ob_store::state::State;
 
 /// What the lines before the first event tell, and how many they are.

@@ -20,7 +20,7 @@ use crate::written::take_written;
 use ob_checked::checked::Checked;
 use ob_interface::NoMemory;
 use ob_interface::export::Export;
-use ob_mean::opening::MOST_TURNS;
+use ob_mean::openings::MOST_TURNS;
 use ob_store::state::State;
 use ob_text_values_reading::comments::{line_number, may_have_comments, without_comments};
 use ob_text_values_reading::lines::{split_line, without_last_feed};

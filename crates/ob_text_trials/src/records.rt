@@ -1,7 +1,7 @@
 //! Records of a module with an array, records and BOOLEANs, read and written again.
 
-use ob_check::checked_text::checked_text;
-use ob_mean::opening::opening;
+use ob_check::texts::checked_text;
+use ob_mean::openings::opening;
 use ob_text_reading::{RecordFault, read_record};
 use ob_text_record::{Record, write_record};
 use std::test::Fail;

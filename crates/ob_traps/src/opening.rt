@@ -14,7 +14,7 @@ use ob_checked::program::Program;
 use ob_interface::NoMemory;
 use ob_mean::begun::state_begun;
 use ob_mean::object::MOST_ACTIVATIONS;
-use ob_mean::opening::MOST_TURNS;
+use ob_mean::openings::MOST_TURNS;
 use ob_mean::statements::Context;
 use ob_store::store::Store;
 use std::alloc::Global;

@@ -2,7 +2,7 @@
 
 use ob_check::modules::check;
 use ob_layout::{Layout, encode};
-use ob_mean::opening::opening;
+use ob_mean::openings::opening;
 use ob_syntax::reader::read;
 use std::test::Fail;
 

@@ -3,7 +3,7 @@ use Rattle.ob_checked.specs.CheckedModule.{program_in}
 use Rattle.ob_mean.specs.Sequences.{replies_to}
 use Rattle.ob_store.specs.View.{state_of}
 use Rattle.ob_mean.specs.View.{call_of, reply_of}
-use Rattle.ob_mean.proofs.sequence.sequence.Given as goal
+use Rattle.ob_mean.proofs.sequences.sequence.Given as goal
 
 -- the replies so far, and those to the calls that are left, are those to all
 abbrev pub invariant-loop-call : goal.invariant-loop-call

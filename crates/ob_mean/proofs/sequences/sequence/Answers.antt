@@ -6,7 +6,7 @@ use Rattle.ob_mean.specs.Sequences.{replies_to}
 use Rattle.ob_store.specs.View.{state_of}
 use Rattle.ob_mean.specs.View.{call_of, reply_of}
 use Rattle.ob_mean.proofs.InTurn.{made_next, all_made}
-use Rattle.ob_mean.proofs.sequence.sequence.Goals as goal
+use Rattle.ob_mean.proofs.sequences.sequence.Goals as goal
 
 pub loop-call-preserved : goal.loop-call-preserved
 loop-call-preserved c =

@@ -8,7 +8,7 @@ ghost use Rattle.ob_mean.specs.View.{call_of, reply_of};
 
 use crate::call::{Call, Reply};
 use crate::object::step;
-use crate::opening::{OpenFault, opening};
+use crate::openings::{OpenFault, opening};
 use ob_checked::checked::Checked;
 use ob_interface::NoMemory;
 use std::alloc::{AllocFailed, Global};
@@ -41,7 +41,7 @@ impl From<OpenFault> for SeqFault {
 
 impl From<NoMemory> for SeqFault {
     ghost use Rattle.std.specs.Prelude.{◌≡◌};
-    ghost use Rattle.ob_mean.specs.declared.sequence.SeqFault.TheVariants as Seq;
+    ghost use Rattle.ob_mean.specs.declared.sequences.SeqFault.TheVariants as Seq;
 
     ghost from_gives = { λ _ e. e ≡ Seq.NoMemory };
 
@@ -52,7 +52,7 @@ impl From<NoMemory> for SeqFault {
 
 impl<T: Drop> From<AllocFailed<T>> for SeqFault {
     ghost use Rattle.std.specs.Prelude.{◌≡◌};
-    ghost use Rattle.ob_mean.specs.declared.sequence.SeqFault.TheVariants as Seq;
+    ghost use Rattle.ob_mean.specs.declared.sequences.SeqFault.TheVariants as Seq;
 
     ghost from_gives = { λ _ e. e ≡ Seq.NoMemory };
 

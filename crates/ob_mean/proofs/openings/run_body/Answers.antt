@@ -4,7 +4,7 @@ use Rattle.ob_checked.specs.View.{program_of, statements_in, table_of, variable_
 use Rattle.ob_meaning.specs.ByPositionStatements.{begun}
 use Rattle.ob_store.specs.View.{store_in, state_of, activation_in}
 use Rattle.ob_mean.proofs.Openings.{opening_ran, opening_done, opening_stops}
-use Rattle.ob_mean.proofs.opening.run_body.Goals as goal
+use Rattle.ob_mean.proofs.openings.run_body.Goals as goal
 
 pub returns-in_err-run : goal.returns-in_err-run
 returns-in_err-run c =
