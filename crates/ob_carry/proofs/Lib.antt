@@ -1,11 +1,11 @@
 pub mod Carried
 pub mod Exported
 pub mod Fitted
-pub mod Named
+pub mod NamedParts
 pub mod Rows
 pub mod Runs
 pub mod Sets
 pub mod Stores
-pub mod Telling
+pub mod TellingValues
 pub mod Told
 pub mod Variables

@@ -1,5 +1,5 @@
 pub mod Appended
-pub mod Explained
+pub mod Explanations
 pub mod Feeds
 pub mod ItemPlaces
 pub mod Lines

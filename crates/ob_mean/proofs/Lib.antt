@@ -8,7 +8,7 @@ pub mod InitialValues
 pub mod Kept
 pub mod Least
 pub mod MoreTurns
-pub mod Openings
+pub mod OpeningRuns
 pub mod Runs
 pub mod Selectors
 pub mod Sizes

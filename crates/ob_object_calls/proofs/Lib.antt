@@ -19,7 +19,7 @@ pub mod SequenceByCode
 pub mod SequenceFitting
 pub mod Simulated
 pub mod TellsParts
-pub mod Texts
+pub mod CallTexts
 pub mod ToldNamed
 pub mod Typed
 mod VerifyByCode

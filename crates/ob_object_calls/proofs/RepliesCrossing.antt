@@ -20,7 +20,7 @@ use Rattle.ob_object_calls.specs.RecordCalls.{IsCallFound, IsFoundIn, IsMadeIn, 
 use Rattle.ob_object_calls.proofs.Beginnings.{beginning_named, no_trap, one_state, record_opened}
 use Rattle.ob_object_calls.proofs.VerifyFitting.{calls_fit}
 use Rattle.ob_object_calls.proofs.Openings.{module_resolved}
-use Rattle.ob_object_calls.proofs.Texts.{fault_in}
+use Rattle.ob_object_calls.proofs.CallTexts.{fault_in}
 use Rattle.ob_object_calls.specs.Beginnings.{BeginsNamed, BeginsPlaced, TrapsPlaced}
 use Rattle.ob_object_calls.specs.VerifyFaults.{HasOrderFault, IsFaultOfRecord}
 use Rattle.ob_object_calls.specs.declared.verifying.VerifyFault.{VerifyFault}

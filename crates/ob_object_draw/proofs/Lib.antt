@@ -2,7 +2,7 @@ pub mod Alone
 pub mod Charted
 pub mod Crossed
 pub mod Drawn
-pub mod Faults
+pub mod FaultCalls
 pub mod Few
 pub mod NoPicture
 pub mod Parted

@@ -27,7 +27,7 @@ pub fn push_value(
     ensures left { OnErr result (GoesOn (string_bytes text.old) (string_bytes text.new)) }
 {
     match value {
-        Value::Single(scalar) => values::push_value(text, *scalar),
+        Value::Single(scalar) => scalar_words::push_value(text, *scalar),
         Value::Parts(parts) => match elements_of(types, data_type) {
             Some((_, element)) => push_array(text, types, element, parts.as_slice()),
             None => match fields_of(types, data_type) {

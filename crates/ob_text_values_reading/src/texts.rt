@@ -205,9 +205,9 @@ fn read_scalar(word: &[u8]) -> Option<Scalar>
         ((type : ScalarType) (s : Scalar) → IsValue type word.now s → ⊥)
         (λ s. (type : ScalarType) × IsValue type word.now s) }
 {
-    match values::read_value(ScalarType::Boolean, word) {
+    match parameters::read_value(ScalarType::Boolean, word) {
         Some(scalar) => Some(scalar),
-        None => values::read_value(ScalarType::Integer, word),
+        None => parameters::read_value(ScalarType::Integer, word),
     }
 }
 

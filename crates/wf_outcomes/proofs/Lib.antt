@@ -11,5 +11,5 @@ pub mod Meeting
 pub mod OutcomesLists
 pub mod Replying
 pub mod Stepping
-pub mod Telling
+pub mod TellingOrders
 pub mod ToldLists

@@ -1,7 +1,7 @@
 use Rattle.std.proofs.Common.{◌≡◌, ◌∙◌, Some, ap, arith, string_bytes, sym}
 use Rattle.ob_carry.proofs.Rows.{named_in-elements, named_in-fields}
 use Rattle.ob_carry.specs.View.{elements_of, fields_of}
-use Rattle.ob_carry.proofs.Named.{array_made, fields_end, fields_step, named_end, named_step, no_fields, record_made}
+use Rattle.ob_carry.proofs.NamedParts.{array_made, fields_end, fields_step, named_end, named_step, no_fields, record_made}
 use Rattle.ob_carry.proofs.naming.+naming.Goals as goal
 use Rattle.ob_checked.specs.Types.{fields_by, type_in, types_of}
 use Rattle.ob_checked.specs.View.{table_of}

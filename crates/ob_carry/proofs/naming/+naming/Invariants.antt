@@ -1,7 +1,7 @@
 use Rattle.std.proofs.Common.{take}
 use Rattle.ob_checked.specs.Types.{type_in, types_of}
 use Rattle.ob_checked.specs.View.{table_of}
-use Rattle.ob_carry.proofs.Named.{AllFields, AllNamed}
+use Rattle.ob_carry.proofs.NamedParts.{AllFields, AllNamed}
 use Rattle.ob_carry.proofs.naming.+naming.Given as goal
 
 -- the elements so far are named

@@ -4,7 +4,7 @@ use Rattle.ob_checked.specs.View.{program_of}
 use Rattle.ob_mean.specs.Faults.{IsOpenFault, of_stop}
 use Rattle.ob_mean.specs.Sequences.{IsOpening}
 use Rattle.ob_store.specs.View.{state_of}
-use Rattle.ob_mean.proofs.Openings.{opening_fault}
+use Rattle.ob_mean.proofs.OpeningRuns.{opening_fault}
 use Rattle.ob_mean.proofs.openings.opening.Goals as goal
 
 pub returns-in_err-state-clause-fault : goal.returns-in_err-state-clause-fault

@@ -3,7 +3,7 @@ use Rattle.std.proofs.lemmas.Result.{err_from_is_err_and}
 use Rattle.ob_checked.specs.View.{program_of, statements_in, table_of, variable_of}
 use Rattle.ob_meaning.specs.ByPositionStatements.{begun}
 use Rattle.ob_store.specs.View.{store_in, state_of, activation_in}
-use Rattle.ob_mean.proofs.Openings.{opening_ran, opening_done, opening_stops}
+use Rattle.ob_mean.proofs.OpeningRuns.{opening_ran, opening_done, opening_stops}
 use Rattle.ob_mean.proofs.openings.run_body.Goals as goal
 
 pub returns-in_err-run : goal.returns-in_err-run

@@ -1,6 +1,6 @@
 use Rattle.std.proofs.lemmas.Result.{err_from_is_err_and, IfErr-weaker, on_ok_weaker}
 use Rattle.ob_checked.specs.CheckedModule.{program_in}
-use Rattle.ob_object_calls.proofs.Texts.{fault_in, memory_lawful, memory_only, no_run, none_by, record_in, told_of, verified_by}
+use Rattle.ob_object_calls.proofs.CallTexts.{fault_in, memory_lawful, memory_only, no_run, none_by, record_in, told_of, verified_by}
 use Rattle.ob_object_calls.proofs.verifying.verify_text.Goals as goal
 
 pub returns-in_err-checked-clause-none : goal.returns-in_err-checked-clause-none

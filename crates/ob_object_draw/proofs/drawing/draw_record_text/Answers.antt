@@ -3,7 +3,7 @@ use Rattle.std.proofs.lemmas.Result.{err_from_is_err_and}
 use Rattle.ob_checked.specs.CheckedModule.{program_in}
 use Rattle.ob_checked.specs.Exports.{signatures}
 use Rattle.ob_object_draw.proofs.Drawn.{marked_here}
-use Rattle.ob_object_draw.proofs.Faults.{range_fault, record_fault}
+use Rattle.ob_object_draw.proofs.FaultCalls.{range_fault, record_fault}
 use Rattle.ob_object_draw.proofs.NoPicture.{no_module, no_range, no_record}
 use Rattle.ob_object_draw.specs.RecordPictures.{moments_of}
 use Rattle.ob_picture_chart.specs.ChartView.{mark_of}

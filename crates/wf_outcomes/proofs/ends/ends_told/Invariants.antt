@@ -1,7 +1,7 @@
 use Rattle.std.proofs.Common.{map}
 use Rattle.wf_outcomes.specs.Explored.{all_kept, calls_in}
 use Rattle.wf_outcomes.proofs.Matching.{Match}
-use Rattle.wf_outcomes.proofs.Telling.{TellsEnd}
+use Rattle.wf_outcomes.proofs.TellingOrders.{TellsEnd}
 use Rattle.wf_outcomes.specs.View.{end_in}
 use Rattle.wf_outcomes.proofs.ends.ends_told.Given as goal
 

@@ -2,7 +2,7 @@ use Rattle.std.proofs.Common.{map}
 use Rattle.wf_outcomes.specs.Explored.{all_kept, calls_in}
 use Rattle.wf_outcomes.specs.Possible.{had_in}
 use Rattle.wf_outcomes.proofs.Matching.{Match}
-use Rattle.wf_outcomes.proofs.Telling.{TellsReply}
+use Rattle.wf_outcomes.proofs.TellingOrders.{TellsReply}
 use Rattle.wf_outcomes.specs.View.{told_in}
 use Rattle.wf_outcomes.proofs.told_replies.replies_told.Given as goal
 

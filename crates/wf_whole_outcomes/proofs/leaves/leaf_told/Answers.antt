@@ -8,7 +8,7 @@ use Rattle.wf_whole_outcomes.specs.Nodes.{IsFront, lists_in, spot_in}
 use Rattle.wf_whole_outcomes.specs.declared.edges.Edge.{Edge}
 use Rattle.wf_whole_outcomes.proofs.Listing.{in_map}
 use Rattle.wf_outcomes.specs.Explored.{all_kept}
-use Rattle.wf_outcomes.proofs.Telling.{state_there}
+use Rattle.wf_outcomes.proofs.TellingOrders.{state_there}
 use Rattle.wf_whole_outcomes.specs.Leaves.{said_in}
 use Rattle.wf_whole_outcomes.proofs.Reading.{node_at, tellable_at}
 use Rattle.wf_whole_outcomes.proofs.leaves.leaf_told.Goals as goal
