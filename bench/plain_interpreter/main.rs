@@ -1,7 +1,7 @@
 //! A plain interpreter of the same tree, with nothing proved of it: what `bench/interpreting` is to be compared with. It runs
 //! three programs that are built here, as the checker would give them, and prints the seconds that each takes.
 //! The tree, the values, the store by positions, the traps, the turns and the notes of what a call writes are those of
-//! crates/ob_checked, ob_store, ob_evaluate and ob_interpreter.
+//! crates/ob_checked, ob_store and ob_mean.
 
 use std::time::Instant;
 
