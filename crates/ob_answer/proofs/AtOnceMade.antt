@@ -1,7 +1,7 @@
 -- The same of pictures and of workers.
 use Rattle.std.proofs.Common.{◌<◌, ℕ, List, Option, length}
 use Rattle.ob_desk_serve.specs.ServedTexts.{IsUngatedRefusal, calls_texts}
-use Rattle.ob_desk_serve.specs.declared.texts.ServeTextFault.TheVariants as Serve
+use Rattle.ob_desk_serve.specs.declared.serving_texts.ServeTextFault.TheVariants as Serve
 use Rattle.ob_object_compile.specs.Asked.{Asked}
 use Rattle.ob_object_compile.specs.Compilation as Compiles
 use Rattle.ob_object_compile.specs.declared.compiling.CompileFault.{CompileFault}

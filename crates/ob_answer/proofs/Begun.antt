@@ -7,11 +7,11 @@ use Rattle.ob_answer_explained.specs.CommandTexts.{CallsTexts, RunTexts, calls_o
 use Rattle.ob_answer_explained.specs.Explains.{IsValuesFaultTold}
 use Rattle.ob_answer_files.specs.Reads.{OfWhole}
 use Rattle.ob_answer_files.specs.declared.answered.Answer.{Answer}
-use Rattle.ob_answer.specs.declared.product.CallsProduct.{CallsProduct}
-use Rattle.ob_answer.specs.declared.product.Product.{Product}
+use Rattle.ob_answer.specs.declared.printed_forms.CallsProduct.{CallsProduct}
+use Rattle.ob_answer.specs.declared.printed_forms.Product.{Product}
 use Rattle.ob_command.specs.CommandLine.{CallsRequest, RunRequest}
 use Rattle.ob_object_compile.specs.Asked.{Beginning}
-use Rattle.ob_text_values_reading.specs.ToldValues.{SaysNone}
+use Rattle.ob_text_values_reading.specs.ReadValues.{SaysNone}
 use Rattle.ob_text_values_reading.specs.declared.reading.ValuesFault.{ValuesFault}
 
 -- ---- calls

@@ -14,7 +14,7 @@ use Rattle.ob_object_compile.specs.Asked.{Asked, Beginning, TellsAtOnce}
 use Rattle.ob_object_compile.specs.Compilation.{IsNumbered, IsRefusal, IsShort}
 use Rattle.ob_object_compile.specs.declared.compiling.CompileFault.{CompileFault}
 use Rattle.ob_object_live.specs.declared.parts.Live.{Live}
-use Rattle.ob_text_values_reading.specs.ToldValues.{SaysNone}
+use Rattle.ob_text_values_reading.specs.ReadValues.{SaysNone}
 use Rattle.ob_text_values_reading.specs.declared.reading.ValuesFault.{ValuesFault}
 
 module _ {C : Type 0} (Hears Tells : C → List ℕ → C → Type 0) (start end : C) where

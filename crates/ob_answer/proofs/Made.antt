@@ -15,8 +15,8 @@ use Rattle.ob_object_compile.specs.Asked.{Asked, TellsAtOnce}
 use Rattle.ob_object_compile.specs.declared.compiling.CompileFault.{CompileFault}
 use Rattle.ob_object_draw.specs.RecordPictures as RecordPictures
 use Rattle.ob_object_draw.specs.RecordPictures.{HasNoPicture, IsDrawRecordFault}
-use Rattle.ob_object_draw.specs.declared.drawing.DrawRecordFault.{DrawRecordFault}
-use Rattle.ob_object_draw.specs.declared.drawing.DrawRecordFault.TheVariants as DrawRecord
+use Rattle.ob_object_draw.specs.declared.record_pictures.DrawRecordFault.{DrawRecordFault}
+use Rattle.ob_object_draw.specs.declared.record_pictures.DrawRecordFault.TheVariants as DrawRecord
 use Rattle.ob_object_perform.specs.Pictured as Pictured
 use Rattle.ob_object_perform.specs.declared.drawing.DrawFault.{DrawFault}
 use Rattle.ob_object_perform.specs.declared.drawing.DrawFault.TheVariants as Draw

@@ -20,8 +20,8 @@ use Rattle.ob_object_perform.specs.Printed.{IsPrintedOf, IsRecordPrinted}
 use Rattle.ob_object_perform.specs.Texts.{Texts}
 use Rattle.ob_picture_chart.specs.declared.charts.CallRange.{CallRange}
 use Rattle.ob_object_calls.specs.SequentialRun.{HasObject, IsSequentialRun}
-use Rattle.ob_object_calls.specs.ToldRun.{IsToldRun}
-use Rattle.ob_object_calls.specs.declared.told.Details.{Details}
+use Rattle.ob_object_calls.specs.DetailedRun.{IsToldRun}
+use Rattle.ob_object_calls.specs.declared.details.Details.{Details}
 use Rattle.ob_object_draw.specs.Forms.{is_record_form}
 use Rattle.ob_object_perform.specs.Spent.{IsPrintedWithSteps}
 use Rattle.ob_object_perform.specs.Behind.{IsStatePrinted}
@@ -40,10 +40,10 @@ use Rattle.ob_command.specs.declared.command.RunCommand.{RunCommand}
 use Rattle.ob_command.specs.declared.command.RunProduct.{RunProduct}
 use Rattle.ob_command.specs.declared.command.RunProduct.TheVariants as RunProducts
 use Rattle.ob_answer.specs.AllRuns.{AllRuns, Explained, IsAllRunsAnswer, all_runs_for, shows_all_runs}
-use Rattle.ob_answer.specs.declared.product.CallsProduct.{CallsProduct}
-use Rattle.ob_answer.specs.declared.product.CallsProduct.TheVariants as CallsProducts
-use Rattle.ob_answer.specs.declared.product.Product.{Product}
-use Rattle.ob_answer.specs.declared.product.Product.TheVariants as Products
+use Rattle.ob_answer.specs.declared.printed_forms.CallsProduct.{CallsProduct}
+use Rattle.ob_answer.specs.declared.printed_forms.CallsProduct.TheVariants as CallsProducts
+use Rattle.ob_answer.specs.declared.printed_forms.Product.{Product}
+use Rattle.ob_answer.specs.declared.printed_forms.Product.TheVariants as Products
 use Rattle.ob_answer_explained.specs.Beginnings.{WithBeginning}
 use Rattle.ob_answer_explained.specs.CommandTexts.{CallsTexts, RunTexts, asked_by, calls_texts, first_or_none, record_file, run_texts_by}
 use Rattle.ob_answer_explained.specs.Explains.{AreTrapsExplained, IsCallsExplained, IsModuleExplained, IsRecordExplained, IsRunExplained, IsValuesFaultTold}

@@ -3,12 +3,12 @@
 use Rattle.std.specs.Prelude.{◌≢◌, ℕ, List, Option}
 use Rattle.ob_desk_serve.specs.ServedTexts as Serves
 use Rattle.ob_desk_serve.specs.ServedTexts.{IsUngatedRefusal}
-use Rattle.ob_desk_serve.specs.declared.texts.ServeTextFault.{ServeTextFault}
+use Rattle.ob_desk_serve.specs.declared.serving_texts.ServeTextFault.{ServeTextFault}
 use Rattle.ob_object_compile.specs.Asked.{Asked}
 use Rattle.ob_object_compile.specs.Compilation.{IsAny}
 use Rattle.ob_object_draw.specs.RecordPictures as RecordPictures
 use Rattle.ob_object_draw.specs.RecordPictures.{HasNoPicture, IsDrawRecordFault}
-use Rattle.ob_object_draw.specs.declared.drawing.DrawRecordFault.{DrawRecordFault}
+use Rattle.ob_object_draw.specs.declared.record_pictures.DrawRecordFault.{DrawRecordFault}
 use Rattle.ob_object_perform.specs.Performance as Performs
 use Rattle.ob_object_perform.specs.Pictured.{IsDrawRefusal}
 use Rattle.ob_object_perform.specs.Texts.{Texts}

@@ -11,17 +11,19 @@ ghost use Rattle.ob_command.specs.CommandLine.{Bound, Check, DrawHistory, DrawRe
 ghost use Rattle.ob_command.specs.Commands.{calls_request_of, order_request_of, outcomes_request_of, request_of, run_request_of, seen_request_of, seq_request_of};
 
 use crate::all_runs::{AllRuns, obey_all_runs};
+use crate::command_answers::{obey_calls, obey_run, obey_serve};
 use crate::explaining::{obey_explain_history, obey_explain_module, obey_explain_record};
-use crate::making::{answer_bound, answer_check, answer_draw_seen, answer_list, answer_verify};
-use crate::making_schedules::{obey_chance, obey_finished};
-use crate::obeying::{obey_calls, obey_run, obey_serve};
-use crate::product::{CallsProduct, Product};
+use crate::printed_forms::{CallsProduct, Product};
+use crate::schedule_answers::{obey_chance, obey_finished};
+use crate::text_answers::{
+    answer_bound, answer_check, answer_draw_seen, answer_list, answer_verify,
+};
 use ob_answer_files::answered::Answer;
 use ob_answer_files::files::{FileFault, Files};
 use ob_answer_files::reading::{MODULE_BYTES, TwoFiles, read_two, unreadable};
-use ob_answer_searches::drawing::{HistoryDrawing, answer_draw_history};
-use ob_answer_searches::ordering::answer_order;
-use ob_answer_searches::outcomes_answering::Looking;
+use ob_answer_searches::history_drawing::{HistoryDrawing, answer_draw_history};
+use ob_answer_searches::order_answers::answer_order;
+use ob_answer_searches::outcomes_answers::Looking;
 use ob_command::command::{
     CallNumbers, CallsCommand, Command, OrderCommand, OutcomesCommand, RunCommand, SeenCommand,
     SeqCommand, Stop, read_command,

@@ -9,7 +9,7 @@ use ob_answer_explained::explaining_runs::explain_record;
 use ob_answer_files::answered::Answer;
 use ob_answer_files::files::{FileFault, Files};
 use ob_answer_files::reading::{MODULE_BYTES, TwoFiles, read_two, unreadable};
-use ob_answer_searches::orders_explaining::{HistoryFiles, explain_history};
+use ob_answer_searches::history_explained::{HistoryFiles, explain_history};
 use ob_interface::NoMemory;
 use std::alloc::Global;
 use std::random::RandomSource;

@@ -4,9 +4,9 @@
 
 pub mod all_runs;
 pub mod answer;
+mod command_answers;
 mod explaining;
-pub mod live;
-pub mod making;
-mod making_schedules;
-mod obeying;
-pub mod product;
+pub mod live_answer;
+pub mod printed_forms;
+mod schedule_answers;
+pub mod text_answers;

@@ -5,7 +5,7 @@ use Rattle.ob_carry.specs.Carried.{Entry}
 use Rattle.ob_carry.specs.View.{entries_of}
 use Rattle.ob_carry.specs.declared.named.NamedField.{NamedField}
 use Rattle.ob_object_compile.specs.Asked.{Beginning, ByBody, ByValues}
-use Rattle.ob_text_values_reading.specs.ToldValues.{AreValuesOf, IsValuesFault, SaysNone}
+use Rattle.ob_text_values_reading.specs.ReadValues.{AreValuesOf, IsValuesFault, SaysNone}
 use Rattle.ob_text_values_reading.specs.declared.reading.ValuesFault.{ValuesFault}
 
 -- by the module's body, where no record is named; else with the values that the record's bytes tell

@@ -5,7 +5,7 @@ ghost use Rattle.ob_answer_explained.specs.CommandTexts.{named_source};
 ghost use Rattle.ob_answer_explained.specs.Explains.{IsShownOr, IsValuesFaultTold};
 ghost use Rattle.ob_explained.specs.ExplainedValues.{IsCarryExplanation};
 ghost use Rattle.ob_answer_files.specs.ShownNames.{shown};
-ghost use Rattle.ob_text_values_reading.specs.ToldValues.{SaysNone};
+ghost use Rattle.ob_text_values_reading.specs.ReadValues.{SaysNone};
 
 use crate::texts::name_or_none;
 use ob_answer_files::answered::{Answer, refused};

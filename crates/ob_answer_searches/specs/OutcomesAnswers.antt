@@ -3,7 +3,7 @@ use Rattle.std.specs.Prelude.{◌≡◌, ◌≢◌, ℕ, List, Option, IfSome, o
 use Rattle.ob_answer_files.specs.Printed.{IsTextAnswer}
 use Rattle.ob_answer_files.specs.declared.answered.Answer.{Answer}
 use Rattle.ob_answer_searches.specs.OutcomesFaultLines.{outcomes_fault_line}
-use Rattle.ob_answer_searches.specs.declared.outcomes_answering.Looking as Rust
+use Rattle.ob_answer_searches.specs.declared.outcomes_answers.Looking as Rust
 use Rattle.ob_command.specs.CommandLine.{Text}
 use Rattle.ob_object_compile.specs.Asked.{Asked}
 use Rattle.ob_object_outcomes.specs.Outcomes.{AreOutcomesOf, HoldsAlways}

@@ -3,12 +3,12 @@
 //! One may rely on their clauses, which name what the rooms of ob_object define.
 #![tactic(auto)]
 
-pub mod drawing;
+pub mod always_explained;
 pub mod faults;
+pub mod history_drawing;
+pub mod history_explained;
 pub mod lines;
-pub mod ordering;
+pub mod order_answers;
 mod orders;
-pub mod orders_explaining;
-pub mod outcomes_answering;
-pub mod outcomes_explaining;
-pub mod wholes_answering;
+pub mod outcomes_answers;
+pub mod whole_answers;

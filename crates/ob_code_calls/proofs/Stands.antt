@@ -10,7 +10,7 @@ use Rattle.ob_code_correct.specs.Parts.{IsCompiledTo, IsLawfulFor}
 use Rattle.ob_layout.specs.Layout.{LayoutParts, layout_of}
 use Rattle.ob_code_scheme.specs.Layout.{IsEncoding, decoded}
 use Rattle.ob_code_calls.specs.Standing.{IsLaidOut, StandsAt}
-use Rattle.ob_code_calls.specs.declared.coded.CodedState.{CodedState}
+use Rattle.ob_code_calls.specs.declared.standing_state.CodedState.{CodedState}
 use Rattle.ob_interface.specs.Call.{ObjectCall, Reply}
 use Rattle.ob_meaning.specs.ByPositionObject.{effect}
 use Rattle.ob_meaning.specs.ByPositionStore.{Activation}

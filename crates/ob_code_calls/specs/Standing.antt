@@ -4,7 +4,7 @@ use Rattle.ob_code_calls.specs.Parts.{parts_in}
 use Rattle.ob_code_correct.specs.Parts.{IsCompiledTo}
 use Rattle.ob_layout.specs.Layout.{LayoutParts, layout_of}
 use Rattle.ob_code_scheme.specs.Layout.{IsEncoding}
-use Rattle.ob_code_calls.specs.declared.coded.CodedState.{CodedState}
+use Rattle.ob_code_calls.specs.declared.standing_state.CodedState.{CodedState}
 use Rattle.ob_interface.specs.Call.{ObjectCall, Reply}
 use Rattle.ob_meaning.specs.ByPositionObject.{effect}
 use Rattle.ob_meaning.specs.ByPositionStore.{Activation}

@@ -5,12 +5,12 @@
 #![tactic(auto)]
 
 pub mod calls;
-pub mod coded;
 mod fitting;
 pub mod room;
 mod running;
 pub mod scalars;
+pub mod standing_state;
 
 pub use calls::CodeCalls;
-pub use coded::CodedState;
 pub use room::Room;
+pub use standing_state::CodedState;

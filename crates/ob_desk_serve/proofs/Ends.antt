@@ -20,7 +20,7 @@ use Rattle.ob_desk_serve.specs.declared.worker.Ended.{Ended}
 use Rattle.ob_desk_serve.specs.declared.worker.Worked.{Worked}
 use Rattle.ob_interface.specs.Call.{ObjectCall, Reply}
 use Rattle.ob_object_compile.specs.Compilation.{ObjectParts}
-use Rattle.ob_desk_serve.specs.ServeGathered.{AreBack, AreOf, HaveAllServed, HaveServed, IsGatherFault, NoneEnded, hidden, how_ended, lists_in, started}
+use Rattle.ob_desk_serve.specs.NotAllEnded.{AreBack, AreOf, HaveAllServed, HaveServed, IsGatherFault, NoneEnded, hidden, how_ended, lists_in, started}
 use Rattle.ob_desk_serve.specs.ServeFaults.{HasLost, IsFinishFault, IsServeFault, TellsClosing}
 use Rattle.ob_desk_serve.specs.Served.{AreAnswersTold, AreTurnsLet, desk_of}
 use Rattle.ob_desk_serve.specs.declared.ending.HandedBack.{HandedBack}

@@ -4,7 +4,7 @@ use Rattle.std.proofs.lemmas.List.{append-nil, map-append}
 use Rattle.std.proofs.lemmas.List.Elements.{filter_map-append}
 use Rattle.ob_desk_floor.specs.declared.seat.CallAnswer.{CallAnswer}
 use Rattle.ob_desk_serve.specs.declared.worker.Worked.{Worked}
-use Rattle.ob_desk_serve.specs.ServeGathered.{started}
+use Rattle.ob_desk_serve.specs.NotAllEnded.{started}
 
 abbrev itself : Option Worked → Option Worked
 itself w = w

@@ -1,7 +1,7 @@
 pub mod Joined
 pub mod Rounds
 pub mod ServeFaults
-pub mod ServeGathered
+pub mod NotAllEnded
 pub mod Served
 pub mod ServedTexts
 pub mod WorkersGathered

@@ -15,8 +15,8 @@ use Rattle.ob_desk_serve.specs.ServeFaults.{IsServeFault}
 use Rattle.ob_desk_serve.specs.Served.{AreAnswersTold, AreTurnsLet, HaveEnded, IsRecordOf}
 use Rattle.ob_desk_serve.specs.declared.fault.ServeFault.{ServeFault}
 use Rattle.ob_desk_serve.specs.declared.fault.ServeFault.TheVariants as Serve
-use Rattle.ob_desk_serve.specs.declared.texts.ServeTextFault.{ServeTextFault}
-use Rattle.ob_desk_serve.specs.declared.texts.ServeTextFault.TheVariants as Faults
+use Rattle.ob_desk_serve.specs.declared.serving_texts.ServeTextFault.{ServeTextFault}
+use Rattle.ob_desk_serve.specs.declared.serving_texts.ServeTextFault.TheVariants as Faults
 use Rattle.ob_text_words.specs.ScriptCalls.{ScriptCall}
 
 -- the texts that workers are given: those of a run of which no schedule says who steps

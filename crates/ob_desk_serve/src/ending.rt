@@ -1,7 +1,7 @@
 //! What is made of a desk's workers when all have ended.
 
 ghost use Rattle.std.specs.Prelude.{◌≡◌, IfErr, IfNone, IfOk, IfSome};
-ghost use Rattle.ob_desk_serve.specs.ServeGathered.{AreBack, AreSplit, IsFirst, IsGatherFault, NoneEnded, how_ended};
+ghost use Rattle.ob_desk_serve.specs.NotAllEnded.{AreBack, AreSplit, IsFirst, IsGatherFault, NoneEnded, how_ended};
 
 use crate::fault::ServeFault;
 use crate::{Ended, Worked};

@@ -12,7 +12,7 @@ pub mod gathering;
 pub mod opening;
 mod recording;
 pub mod serving;
-pub mod texts;
+pub mod serving_texts;
 pub mod worker;
 
 pub use fault::ServeFault;
@@ -20,5 +20,5 @@ pub use gate::{Gate, Open};
 pub use gathering::gather;
 pub use opening::opened_desk;
 pub use serving::serve;
-pub use texts::{ServeTextFault, read_calls, serve_text, serve_text_with};
+pub use serving_texts::{ServeTextFault, read_calls, serve_text, serve_text_with};
 pub use worker::{Ended, Worked};

@@ -10,5 +10,5 @@ mod missing;
 pub mod remark;
 mod rules;
 mod syntax;
-mod told;
+mod table_rows;
 mod unexpected;

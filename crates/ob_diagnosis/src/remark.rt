@@ -10,7 +10,7 @@ use crate::rules::{
     twice_remark, types_remark, unknown_remark,
 };
 use crate::syntax::{name_remark, unexpected_remark};
-use crate::told::plain_remark;
+use crate::table_rows::plain_remark;
 use ob_evidence::site::{Site, look_around};
 use ob_messages::remark::Remark;
 use ob_messages::table::Number;

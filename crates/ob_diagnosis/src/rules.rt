@@ -7,7 +7,7 @@ ghost use Rattle.ob_messages.specs.Remarks.{remark_of};
 
 use crate::calls::declares;
 use crate::foreign::{is_number_type, is_small_keyword};
-use crate::told::{Seen, nothing, of_facts, told};
+use crate::table_rows::{Seen, nothing, of_facts, told};
 use ob_evidence::facts::facts_of;
 use ob_evidence::names::{
     declared, declared_line, is_near, is_there, near_name, parameters, sort_facts, sort_there,

@@ -6,7 +6,7 @@ ghost use Rattle.ob_evidence.specs.Expected.{AreExpected};
 ghost use Rattle.ob_evidence.specs.Sites.{scene_of};
 ghost use Rattle.ob_messages.specs.Remarks.{remark_of};
 
-use crate::told::{Seen, nothing, of_facts, told};
+use crate::table_rows::{Seen, nothing, of_facts, told};
 use crate::unexpected::seen_there;
 use ob_evidence::constructs::{inner_of, open_around, opening_of};
 use ob_evidence::expected::expected_kinds;

@@ -4,6 +4,6 @@ pub mod Feeds
 pub mod ItemPlaces
 pub mod Lines
 pub mod Marked
-pub mod ToldLines
+pub mod ShownLines
 pub mod ValueLines
 pub mod WordPlaces

@@ -7,7 +7,7 @@ use Rattle.ob_mean.specs.declared.openings.OpenFault.{OpenFault}
 use Rattle.ob_mean.specs.declared.openings.OpenFault.TheVariants as Open
 use Rattle.ob_meaning.specs.ByNameObject.{OpeningTraps, most_turns}
 use Rattle.ob_traps.specs.Places.{place_of}
-use Rattle.ob_traps.specs.Object.{site_of_opening}
+use Rattle.ob_traps.specs.TrapOfCall.{site_of_opening}
 use Rattle.ob_traps.specs.Site.{Cause, Site}
 use Rattle.ob_typing.specs.ModuleText.{IsModule}
 use Rattle.ob_typing.specs.Program.{Program}

@@ -1,7 +1,7 @@
 -- In which line of a record's text each of its values stands.
 use Rattle.std.specs.Prelude.{◌≡◌, ℕ, suc, ◌-◌, ◌==◌, Bool, false, List, [], ◌∷◌, Some, map, slice_get, if◌then◌else◌}
 use Rattle.ob_carry.specs.Carried.{Entry}
-use Rattle.ob_text_values_reading.specs.ToldValues.{AreValuesOf}
+use Rattle.ob_text_values_reading.specs.ReadValues.{AreValuesOf}
 use Rattle.ob_text_values_reading.specs.Variables.{IsVariableLine}
 use Rattle.ob_text_words.specs.Words.{Word, lines, words}
 

@@ -3,7 +3,7 @@
 ghost use Rattle.ob_explained.specs.ValueLines.{EachValueHasItsLine};
 
 /// Each value that a record's text tells stands in the line that is counted for it.
-#[tactic(auto, using(crate::proofs::ToldLines::each_value_has_its_line))]
+#[tactic(auto, using(crate::proofs::ShownLines::each_value_has_its_line))]
 pub fn each_value_has_its_line()
     ensures { EachValueHasItsLine }
 {}

@@ -4,8 +4,8 @@
 #![tactic(auto)]
 
 pub mod call_remark;
+pub mod carried_values;
 pub mod cause;
-pub mod explained;
 pub mod item_place;
 pub mod laws;
 pub mod number_fault;
@@ -14,11 +14,11 @@ pub mod run;
 pub mod run_remark;
 pub mod script_place;
 pub mod script_remark;
+pub mod shown_fault;
 pub mod source;
 pub mod value_line;
-pub mod values_explained;
 
-pub use explained::{calls_explanation, module_explanation, object_explanation};
+pub use carried_values::{carry_explanation, values_explanation};
 pub use run::run_explanation;
+pub use shown_fault::{calls_explanation, module_explanation, object_explanation};
 pub use source::Source;
-pub use values_explained::{carry_explanation, values_explanation};

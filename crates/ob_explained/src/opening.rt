@@ -5,7 +5,7 @@ ghost use Rattle.ob_check.specs.CheckedText.{IsNumberedText, TellsTextMemoryApar
 ghost use Rattle.ob_checked.specs.CheckedModule.{program_in, tree_in};
 ghost use Rattle.ob_grammar.specs.View.{module_of};
 ghost use Rattle.ob_meaning.specs.ByNameObject.{most_turns};
-ghost use Rattle.ob_traps.specs.Object.{site_of_opening};
+ghost use Rattle.ob_traps.specs.TrapOfCall.{site_of_opening};
 ghost use Rattle.ob_traps.specs.Reaching.{cause_of, site_of};
 ghost use Rattle.ob_typing.specs.ModuleText.{IsModule};
 ghost use Rattle.ob_typing.specs.Program.{Program};
@@ -20,9 +20,9 @@ use ob_mean::openings::OpenFault;
 use ob_messages::explanation::explanation;
 use ob_messages::remark::Remark;
 use ob_text_words::numbers::push_number;
-use ob_traps::lookup_places::place_of;
 use ob_traps::opening::site_of_opening;
 use ob_traps::site::{Cause, Site};
+use ob_traps::site_places::place_of;
 use std::alloc::{AllocError, Global};
 
 /// What is shown of a fault of the opening of a module, whose text has this name: the line of the fault, and the operation

@@ -6,9 +6,9 @@ use Rattle.std.proofs.lemmas.List.Filters.{length-filter_more}
 use Rattle.std.proofs.lemmas.List.Sums.{length-filter, count_by-le-length}
 use Rattle.std.proofs.lemmas.Bool.Decides.{eqb_tells}
 use Rattle.ob_mean.proofs.Runs.{drop_here}
-use Rattle.ob_object_calls.specs.ReplyLines.{count_of}
+use Rattle.ob_object_calls.specs.CallLines.{count_of}
 use Rattle.ob_traps.specs.Site.{Site}
-use Rattle.ob_explained_records.specs.declared.told.CallName.{CallName}
+use Rattle.ob_explained_records.specs.declared.trap_lines.CallName.{CallName}
 use Rattle.ob_explained_records.specs.TrapLines.{Setting, call_name, site_lines, traps_lines}
 
 -- the call of this process, number and line

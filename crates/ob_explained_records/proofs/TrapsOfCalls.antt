@@ -23,7 +23,7 @@ use Rattle.ob_traps.proofs.PlacedCalls.{call_placed}
 use Rattle.ob_traps.specs.Places.{place_of}
 use Rattle.ob_traps.proofs.Sited.{length-sites, numbers_answered}
 use Rattle.ob_traps.specs.Sequence.{sites_from}
-use Rattle.ob_traps.specs.Object.{site_of_call, trap_of}
+use Rattle.ob_traps.specs.TrapOfCall.{site_of_call, trap_of}
 use Rattle.ob_traps.specs.Site.{Site}
 use Rattle.ob_typing.specs.Declarations.{WellTyped}
 use Rattle.ob_typing.specs.Program.{Program}

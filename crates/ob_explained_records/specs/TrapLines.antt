@@ -4,11 +4,11 @@ use Rattle.ob_messages.specs.Explanations.{explanation}
 use Rattle.ob_explained.specs.Sources.{Source, source_of}
 use Rattle.ob_grammar.specs.Tree
 use Rattle.ob_grammar.specs.View.{module_of}
-use Rattle.ob_object_calls.specs.ReplyLines.{count_of}
+use Rattle.ob_object_calls.specs.CallLines.{count_of}
 use Rattle.ob_traps.specs.Places.{place_of}
 use Rattle.ob_traps.specs.Site.{Site}
-use Rattle.ob_explained_records.specs.declared.told.CallName.{CallName}
-use Rattle.ob_explained_records.specs.declared.told.Setting as Rust
+use Rattle.ob_explained_records.specs.declared.trap_lines.CallName.{CallName}
+use Rattle.ob_explained_records.specs.declared.trap_lines.Setting as Rust
 use Rattle.ob_explained.specs.TrapSentences.{cause_sentence}
 use Rattle.ob_explained.specs.declared.cause.Runner.TheVariants as Runners
 

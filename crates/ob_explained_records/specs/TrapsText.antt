@@ -14,7 +14,7 @@ use Rattle.ob_text_words.specs.ScriptCalls.{ScriptCall, object_call, script_call
 use Rattle.ob_text_words.specs.declared.script_call.ScriptCall as Declared
 use Rattle.ob_traps.specs.Places.{place_of}
 use Rattle.ob_traps.specs.Sequence.{sites_from}
-use Rattle.ob_traps.specs.Object.{trap_of}
+use Rattle.ob_traps.specs.TrapOfCall.{trap_of}
 use Rattle.ob_traps.specs.Site.{Site}
 use Rattle.ob_explained_records.specs.CallLines.{call_lines}
 use Rattle.ob_explained_records.specs.TrapLines.{traps_lines}

@@ -5,7 +5,7 @@ ghost use Rattle.ob_explained_records.specs.ExplainedHistories.{IsHistoryExplana
 ghost use Rattle.ob_explained.specs.Sources.{source_of};
 
 use crate::end_remark::end_remark;
-use crate::histories_form_remark::form_remark;
+use crate::history_remark::form_remark;
 use ob_explained::module_explanation;
 use ob_explained::source::{Source, shown};
 use ob_object_compile::CompileFault;

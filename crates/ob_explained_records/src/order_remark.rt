@@ -5,8 +5,8 @@ ghost use Rattle.ob_messages.specs.Remarks.{remark_of};
 ghost use Rattle.ob_explained_records.specs.OrderRemarks.{IsCallSentence, IsEndLine, IsEndRemark, IsOrderLineRemark, IsOrderRemark, IsOtherReplyRemark};
 ghost use Rattle.ob_explained_records.specs.OrderRemarks.{IsTooEarlyRemark, IsUnknownRemark, early_text, line_text, told_at};
 
-use crate::made_text::other_reply_text;
 use crate::order_place::{place_in_order, place_of_end};
+use crate::reply_sentence::other_reply_text;
 use ob_explained_lines::record_line::{Wanted, first_line};
 use ob_messages::remark::Remark;
 use ob_object_calls::{call_made, call_overtaken};

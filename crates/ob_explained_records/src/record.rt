@@ -5,7 +5,7 @@ ghost use Rattle.ob_explained_records.specs.ExplainedRecords.{IsRecordExplanatio
 ghost use Rattle.ob_explained.specs.Sources.{source_of};
 
 use crate::order_remark::order_remark;
-use crate::records_form_remark::form_remark;
+use crate::record_remark::form_remark;
 use ob_explained::module_explanation;
 use ob_explained::source::{Source, shown};
 use ob_object_calls::VerifyFault;

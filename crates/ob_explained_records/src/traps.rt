@@ -9,7 +9,7 @@ ghost use Rattle.ob_object_compile.specs.View.{asked_of, object_in};
 ghost use Rattle.ob_object_calls.specs.SequentialRun.{IsSeqRefusal};
 
 use crate::call_lines::call_lines;
-use crate::told::{Setting, traps_told};
+use crate::trap_lines::{Setting, traps_told};
 use ob_explained::Source;
 use ob_interface::NoMemory;
 use ob_object_calls::SeqTextFault;

@@ -1,8 +1,8 @@
 -- The line that tells each fault of a picture, of a run or of a record.
 use Rattle.std.specs.Prelude.{ℕ, ◌++◌, codes, decimal}
 use Rattle.ob_object_compile.specs.Asked.{Beginning}
-use Rattle.ob_object_draw.specs.declared.drawing.DrawRecordFault.{DrawRecordFault}
-use Rattle.ob_object_draw.specs.declared.drawing.DrawRecordFault.TheVariants as Records
+use Rattle.ob_object_draw.specs.declared.record_pictures.DrawRecordFault.{DrawRecordFault}
+use Rattle.ob_object_draw.specs.declared.record_pictures.DrawRecordFault.TheVariants as Records
 use Rattle.ob_object_perform.specs.declared.drawing.DrawFault.{DrawFault}
 use Rattle.ob_object_perform.specs.declared.drawing.DrawFault.TheVariants as Faults
 use Rattle.ob_picture_chart.specs.declared.fault.PictureFault.{PictureFault}

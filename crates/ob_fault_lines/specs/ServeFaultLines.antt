@@ -4,8 +4,8 @@ use Rattle.ob_desk_floor.specs.declared.fault.CloseFault.{CloseFault}
 use Rattle.ob_desk_floor.specs.declared.fault.CloseFault.TheVariants as Close
 use Rattle.ob_desk_serve.specs.declared.fault.ServeFault.{ServeFault}
 use Rattle.ob_desk_serve.specs.declared.fault.ServeFault.TheVariants as Serve
-use Rattle.ob_desk_serve.specs.declared.texts.ServeTextFault.{ServeTextFault}
-use Rattle.ob_desk_serve.specs.declared.texts.ServeTextFault.TheVariants as Faults
+use Rattle.ob_desk_serve.specs.declared.serving_texts.ServeTextFault.{ServeTextFault}
+use Rattle.ob_desk_serve.specs.declared.serving_texts.ServeTextFault.TheVariants as Faults
 use Rattle.ob_fault_lines.specs.ModuleFaultLines.{Text, no_memory_line}
 use Rattle.ob_fault_lines.specs.RunFaultLines.{run_fault_line}
 use Rattle.ob_object_compile.specs.Asked.{Beginning}

@@ -4,10 +4,10 @@
 #![tactic(auto)]
 
 pub mod compile_faults;
+pub mod count_lines;
 pub mod counts;
 pub mod draw_faults;
 pub mod history_faults;
-pub mod line;
 pub mod module_faults;
 pub mod parts_faults;
 pub mod recording_faults;

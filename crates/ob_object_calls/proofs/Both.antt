@@ -2,7 +2,7 @@
 use Rattle.std.proofs.Common.{◌≡◌, ◌∙◌, ℕ, ◌+◌, ◌<◌, min, List, [], ◌∷◌, ◌++◌, drop, length, get_or, inl, inr, refl, sym, ap, arith, add-one, drop-cons, append_assoc, append-nil}
 use Rattle.std.proofs.lemmas.Bool.{cases_lt}
 use Rattle.std.proofs.lemmas.List.{drop_all}
-use Rattle.ob_object_calls.specs.ToldLines.{of_both}
+use Rattle.ob_object_calls.specs.DetailLines.{of_both}
 
 module _ {A B C : Type 0} (f : A → B → List C) (xs : List A) (ys : List B) where
   parts : (n : ℕ) (x : A) (y : B) → n < length xs → x ≡ get_or xs n x → n < length ys → y ≡ get_or ys n y →

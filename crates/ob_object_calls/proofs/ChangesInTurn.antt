@@ -2,7 +2,7 @@
 use Rattle.std.proofs.Common.{◌≡◌, ◌∙◌, ℕ, ◌+◌, ◌<◌, ◌≤◌, List, [], ◌∷◌, ◌++◌, drop, length, get_or, sym, ap, append_assoc, append-nil}
 use Rattle.ob_interface.specs.Call.{ObjectCall, Reply}
 use Rattle.ob_mean.proofs.Runs.{drop_here, drop_beyond}
-use Rattle.ob_object_calls.specs.ToldLines.{all_changes_at, changes_at}
+use Rattle.ob_object_calls.specs.DetailLines.{all_changes_at, changes_at}
 use Rattle.ob_meaning.specs.ByPositionObject.{effect}
 use Rattle.ob_meaning.specs.ByPositionStore.{Activation}
 use Rattle.ob_typing.specs.Program.{Program}

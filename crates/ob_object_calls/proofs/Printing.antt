@@ -5,7 +5,7 @@ use Rattle.std.proofs.lemmas.List.{take_more, drop_all, reverse-append, length-r
 use Rattle.std.proofs.lemmas.List.Sums.{length-filter, count_by-le-length}
 use Rattle.std.proofs.lemmas.Bool.{eq-eqb, cases_lt}
 use Rattle.std.proofs.lemmas.Bool.Decides.{eqb_tells}
-use Rattle.ob_object_calls.specs.ReplyLines.{numbered, count_of}
+use Rattle.ob_object_calls.specs.CallLines.{numbered, count_of}
 
 -- so many of the callers, the last one first
 abbrev pub before : List ℕ → ℕ → List ℕ

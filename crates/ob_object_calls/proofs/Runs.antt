@@ -11,7 +11,7 @@ use Rattle.ob_mean.specs.Sequences as Positions
 use Rattle.ob_meaning.specs.ByNameObject.{State}
 use Rattle.ob_object_calls.specs.SequentialRun.{PrintsReplies}
 use Rattle.ob_object_calls.proofs.Named.{replies_same}
-use Rattle.ob_object_calls.specs.ReplyLines.{reply_lines}
+use Rattle.ob_object_calls.specs.CallLines.{reply_lines}
 use Rattle.ob_text_words.specs.declared.script_call.ScriptCall as Declared
 use Rattle.ob_text_words.specs.ScriptCalls.{object_call, script_call_of}
 use Rattle.ob_meaning.specs.ByPositionStore.{Activation}

@@ -8,7 +8,7 @@ use Rattle.ob_code_correct.specs.Compiled.{Fits, IsFitting, parts_of}
 use Rattle.ob_code_correct.specs.Parts.{IsCompiledTo, IsLawfulFor}
 use Rattle.ob_code_scheme.specs.Layout.{encoded}
 use Rattle.ob_code_calls.specs.Standing.{IsMade, StandsAt}
-use Rattle.ob_code_calls.specs.declared.coded.CodedState.{CodedState}
+use Rattle.ob_code_calls.specs.declared.standing_state.CodedState.{CodedState}
 use Rattle.ob_interface.specs.Call.{ObjectCall, Reply}
 use Rattle.ob_mean.proofs.Runs.{drop_here}
 use Rattle.ob_mean.specs.Sequences.{replies_to}
@@ -18,7 +18,7 @@ use Rattle.ob_meaning.specs.ByPositionStore.{Activation}
 use Rattle.ob_text_words.specs.ReplyLines.{reply_line}
 use Rattle.ob_object_compile.specs.Compilation.{ObjectParts}
 use Rattle.ob_object_compile.specs.Sound.{IsSoundObject}
-use Rattle.ob_object_calls.specs.ReplyLines.{reply_lines}
+use Rattle.ob_object_calls.specs.CallLines.{reply_lines}
 use Rattle.ob_text_words.specs.declared.script_call.ScriptCall.{ScriptCall}
 use Rattle.ob_text_words.specs.ScriptCalls.{object_call, script_call_of}
 use Rattle.ob_typing.specs.Program.{Program}

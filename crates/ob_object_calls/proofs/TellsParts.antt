@@ -2,9 +2,9 @@
 use Rattle.std.proofs.Common.{◌≡◌, ◌∙◌, ℕ, true, false, List, [], ◌++◌, refl, sym, ap, ap₂, subst, append-nil}
 use Rattle.ob_interface.specs.Call.{ObjectCall}
 use Rattle.ob_object_compile.specs.Compilation.{ObjectParts}
-use Rattle.ob_object_calls.specs.declared.told.Details.{Details}
-use Rattle.ob_object_calls.specs.ToldLines.{budget_line, told_lines}
-use Rattle.ob_object_calls.specs.ToldRun.{IsEnd, TellsAt, TellsTurns, changes_told, replies_at, told}
+use Rattle.ob_object_calls.specs.declared.details.Details.{Details}
+use Rattle.ob_object_calls.specs.DetailLines.{budget_line, told_lines}
+use Rattle.ob_object_calls.specs.DetailedRun.{IsEnd, TellsAt, TellsTurns, changes_told, replies_at, told}
 use Rattle.ob_mean.specs.Turns.{all_turns_at}
 
 module _ (d : Details) (o : ObjectParts) (calls : List ObjectCall) (processes output : List ℕ) (changes : List (List ℕ)) (is : changes ≡ changes_told d.state o calls) where

@@ -12,9 +12,9 @@ use Rattle.ob_mean.specs.Sequences as Sequences
 use Rattle.ob_meaning.specs.ByNameObject as Named
 use Rattle.ob_meaning.specs.ByNameObject.{State}
 use Rattle.ob_meaning.specs.ByNameStore as Names
-use Rattle.ob_object_calls.specs.declared.told.Details.{Details}
-use Rattle.ob_object_calls.specs.ToldLines.{all_changes, all_changes_at, lines_at, lines_changed, state_lines}
-use Rattle.ob_object_calls.specs.ToldRun.{IsEnd, Tells, TellsCalls}
+use Rattle.ob_object_calls.specs.declared.details.Details.{Details}
+use Rattle.ob_object_calls.specs.DetailLines.{all_changes, all_changes_at, lines_at, lines_changed, state_lines}
+use Rattle.ob_object_calls.specs.DetailedRun.{IsEnd, Tells, TellsCalls}
 use Rattle.ob_object_calls.proofs.Named.{replies_same}
 use Rattle.ob_object_calls.proofs.Runs.{callers_in, calls_in}
 use Rattle.ob_meaning.specs.ByPositionObject as Positions

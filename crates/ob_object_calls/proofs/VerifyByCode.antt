@@ -12,7 +12,7 @@ use Rattle.ob_code_calls.specs.Standing as Standing
 use Rattle.ob_interface.specs.Call.{ObjectCall, Reply}
 use Rattle.ob_object_run.specs.InTurn.{IsMadeInTurn, Takeable}
 use Rattle.ob_object_calls.specs.ByCode.{IsAt}
-use Rattle.ob_object_calls.specs.declared.verify_coded.ByCode.{ByCode}
+use Rattle.ob_object_calls.specs.declared.coded_verifying.ByCode.{ByCode}
 use Rattle.ob_meaning.specs.ByPositionStore.{Activation}
 use Rattle.ob_typing.specs.Program.{Program}
 

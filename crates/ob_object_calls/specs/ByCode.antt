@@ -1,7 +1,7 @@
 -- Where a module's code stands.
 use Rattle.std.specs.Prelude.{ℕ}
 use Rattle.ob_code_calls.specs.Standing.{StandsAt}
-use Rattle.ob_object_calls.specs.declared.verify_coded.ByCode.{ByCode}
+use Rattle.ob_object_calls.specs.declared.coded_verifying.ByCode.{ByCode}
 use Rattle.ob_meaning.specs.ByPositionStore.{Activation}
 use Rattle.ob_typing.specs.Program.{Program}
 

@@ -4,12 +4,12 @@ pub mod ByCode
 pub mod Early
 pub mod MadeCalls
 pub mod RecordCalls
-pub mod ReplyLines
+pub mod CallLines
 pub mod RunRecords
 pub mod SequentialParts
 pub mod SequentialRun
-pub mod ToldLines
-pub mod ToldRun
+pub mod DetailLines
+pub mod DetailedRun
 pub mod Verified
 pub mod VerifyFaults
 pub mod View

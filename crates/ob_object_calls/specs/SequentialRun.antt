@@ -7,7 +7,7 @@ use Rattle.ob_object_compile.specs.Compilation.{ObjectParts, IsCompilation, IsCo
 use Rattle.ob_object_compile.specs.Compilation as Compilation
 use Rattle.ob_object_calls.specs.declared.sequential.SeqTextFault.{SeqTextFault}
 use Rattle.ob_object_calls.specs.declared.sequential.SeqTextFault.TheVariants as Faults
-use Rattle.ob_object_calls.specs.ReplyLines.{reply_lines}
+use Rattle.ob_object_calls.specs.CallLines.{reply_lines}
 use Rattle.ob_text_scripts.specs.Script.{IsScript, IsScriptFault}
 use Rattle.ob_text_scripts.specs.declared.script.ScriptFault.{ScriptFault}
 use Rattle.ob_text_scripts.specs.declared.script.ScriptFault.TheVariants as Script

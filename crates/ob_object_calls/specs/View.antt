@@ -3,7 +3,7 @@ use Rattle.ob_interface.specs.Call as Objects
 use Rattle.ob_mean.specs.View.{reply_of}
 use Rattle.ob_mean.specs.declared.call.Reply.{Reply}
 use Rattle.ob_object_calls.specs.MadeCalls as Calls
-use Rattle.ob_object_calls.specs.declared.made.MadeCall.{MadeCall}
+use Rattle.ob_object_calls.specs.declared.call_outcome.MadeCall.{MadeCall}
 use Rattle.ob_meaning.specs.ByPositionStore.{Activation}
 use Rattle.ob_store.specs.View.{state_of}
 use Rattle.ob_store.specs.declared.state.State.{State}

@@ -4,7 +4,7 @@ ghost use Rattle.std.specs.Prelude.{◌≡◌, ◌++◌, IfOk, OnOk, map, string
 ghost use Rattle.ob_checked.specs.CheckedModule.{program_in};
 ghost use Rattle.ob_checked.specs.View.{program_of, table_of, variable_of};
 ghost use Rattle.ob_mean.specs.View.{call_of};
-ghost use Rattle.ob_object_calls.specs.ToldLines.{all_changes_at, line_changed, lines_at, lines_changed};
+ghost use Rattle.ob_object_calls.specs.DetailLines.{all_changes_at, line_changed, lines_at, lines_changed};
 ghost use Rattle.ob_store.specs.View.{state_of, value_in};
 ghost use Rattle.ob_text_record.specs.Variables.{variable_line};
 

@@ -6,27 +6,27 @@
 
 pub mod beginning;
 mod begins;
+pub mod call_outcome;
+pub mod call_outcome_text;
 pub mod calls;
 mod changes;
 pub mod check;
-pub mod early;
+mod coded_calls;
+mod coded_verifying;
+mod detail_lines;
+pub mod details;
 mod ends;
+mod history_calls;
 pub mod laws;
-pub mod made;
-mod making;
 mod names;
+pub mod overtaking;
 mod replies;
-mod sequence_coded;
 pub mod sequential;
-pub mod texts;
-pub mod told;
-mod told_lines;
-mod verify_coded;
 pub mod verifying;
 
+pub use call_outcome::MadeCall;
+pub use call_outcome_text::{call_made, call_overtaken};
 pub use check::check_text;
-pub use made::MadeCall;
+pub use details::{Details, seq_asked_told};
 pub use sequential::{SeqTextFault, seq_asked, seq_text};
-pub use texts::{call_made, call_overtaken};
-pub use told::{Details, seq_asked_told};
 pub use verifying::{VerifyFault, verify_text};

@@ -7,11 +7,11 @@ ghost use Rattle.ob_mean.specs.Sequences.{replies_to};
 ghost use Rattle.ob_object_compile.specs.Asked.{TellsAtOnce, by_body};
 ghost use Rattle.ob_object_compile.specs.Sound.{IsSoundObject};
 ghost use Rattle.ob_object_compile.specs.View.{asked_of, object_in};
-ghost use Rattle.ob_object_calls.specs.ReplyLines.{reply_lines};
+ghost use Rattle.ob_object_calls.specs.CallLines.{reply_lines};
 ghost use Rattle.ob_object_calls.specs.SequentialRun.{IsSeqRefusal, IsSequentialRun};
 ghost use Rattle.ob_text_words.specs.ScriptCalls.{object_call, script_call_of};
 
-use crate::sequence_coded::coded;
+use crate::coded_calls::coded;
 use ob_interface::{MOST_PROCESSES, NoMemory};
 use ob_object_compile::laws::compilations_are_sound;
 use ob_object_compile::{Asked, Beginning, CompileFault, Object, compile_asked};

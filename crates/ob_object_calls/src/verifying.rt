@@ -11,7 +11,7 @@ ghost use Rattle.ob_object_calls.specs.declared.verifying.VerifyFault.{VerifyFau
 ghost use Rattle.ob_object_calls.specs.declared.verifying.VerifyFault.TheVariants as Faults;
 
 use crate::beginning::beginning;
-use crate::verify_coded::by_code;
+use crate::coded_verifying::by_code;
 use ob_check::texts::{TextFault, checked_text};
 use ob_checked::checked::Checked;
 use ob_code_correct::kept_laws::openings_are_states;

@@ -7,7 +7,7 @@ use Rattle.ob_check.specs.declared.texts.TextFault.TheVariants as Text
 use Rattle.ob_mean.specs.declared.openings.OpenFault.TheVariants as Open
 use Rattle.ob_object_draw.specs.Marks.{IsCallMarked, IsOf, of_verify}
 use Rattle.ob_object_draw.specs.RecordPictures.{HasNoPicture, IsRecordPicture, IsRefusal}
-use Rattle.ob_object_draw.specs.declared.drawing.DrawRecordFault.TheVariants as Faults
+use Rattle.ob_object_draw.specs.declared.record_pictures.DrawRecordFault.TheVariants as Faults
 use Rattle.ob_object_run.specs.declared.order.OrderFault.{OrderFault}
 use Rattle.ob_object_run.specs.declared.order.OrderFault.TheVariants as Order
 use Rattle.ob_object_calls.specs.Verified.{IsVerified}

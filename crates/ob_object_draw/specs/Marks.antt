@@ -1,7 +1,7 @@
 -- Which call is marked in the picture of a record, by the bytes of a module and of the record.
 use Rattle.std.specs.Prelude.{◌≡◌, List, ℕ, Option, Some, None, option_map, string_bytes}
-use Rattle.ob_object_draw.specs.declared.drawing.DrawRecordFault.{DrawRecordFault}
-use Rattle.ob_object_draw.specs.declared.drawing.DrawRecordFault.TheVariants as Faults
+use Rattle.ob_object_draw.specs.declared.record_pictures.DrawRecordFault.{DrawRecordFault}
+use Rattle.ob_object_draw.specs.declared.record_pictures.DrawRecordFault.TheVariants as Faults
 use Rattle.ob_object_draw.specs.declared.marking.Marked.{Marked}
 use Rattle.ob_object_run.specs.declared.order.OrderFault.{OrderFault}
 use Rattle.ob_object_run.specs.declared.order.OrderFault.TheVariants as Order

@@ -7,8 +7,8 @@ use Rattle.ob_checked.specs.Exports.{signatures}
 use Rattle.ob_interface.specs.Export.{Signature}
 use Rattle.ob_mean.specs.declared.openings.OpenFault.TheVariants as Open
 use Rattle.ob_object_draw.specs.Marks.{IsCallMarked}
-use Rattle.ob_object_draw.specs.declared.drawing.DrawRecordFault.{DrawRecordFault}
-use Rattle.ob_object_draw.specs.declared.drawing.DrawRecordFault.TheVariants as Faults
+use Rattle.ob_object_draw.specs.declared.record_pictures.DrawRecordFault.{DrawRecordFault}
+use Rattle.ob_object_draw.specs.declared.record_pictures.DrawRecordFault.TheVariants as Faults
 use Rattle.ob_object_calls.specs.VerifyFaults.{IsVerifyFault}
 use Rattle.ob_object_calls.specs.declared.verifying.VerifyFault.TheVariants as Verify
 use Rattle.ob_picture.specs.Shapes.{picture_text}

@@ -4,15 +4,15 @@
 //! One may rely on the clauses of the public functions, which are in the words of `specs/`.
 #![tactic(auto)]
 
-pub mod drawing;
 pub mod faults;
 pub mod forms;
+pub mod history_pictures;
 pub mod marking;
 pub mod parts;
-pub mod search_drawing;
+pub mod record_pictures;
 pub mod showing;
 
-pub use drawing::{DrawRecordFault, draw_record_text};
 pub use faults::DrawHistoryFault;
 pub use forms::is_record_form;
-pub use search_drawing::draw_history_text;
+pub use history_pictures::draw_history_text;
+pub use record_pictures::{DrawRecordFault, draw_record_text};

@@ -12,7 +12,7 @@ ghost use Rattle.ob_picture_chart.specs.declared.charts.CallRange.{CallRange};
 use crate::faults::DrawHistoryFault;
 use crate::parts::{Part, legal_part};
 use ob_checked::checked::Checked;
-use ob_object_search::copying::named_history;
+use ob_object_search::naming_history::named_history;
 use ob_object_search::recording::Heard;
 use ob_object_search::{ModuleObject, Search};
 use std::alloc::Global;

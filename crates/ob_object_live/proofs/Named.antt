@@ -18,7 +18,7 @@ use Rattle.ob_object_compile.specs.Asked.{Asked}
 use Rattle.ob_object_compile.specs.Compilation.{IsCompilation, ObjectParts}
 use Rattle.ob_object_live.specs.LiveParts.{BeginsAt, ground_at}
 use Rattle.ob_object_live.specs.LiveRuns.{IsLiveRun, IsRecordOf, IsRecordTold, seq_lines, state_behind}
-use Rattle.ob_object_calls.specs.ReplyLines.{reply_lines, numbered}
+use Rattle.ob_object_calls.specs.CallLines.{reply_lines, numbered}
 use Rattle.ob_object_calls.proofs.Named.{replies_same}
 use Rattle.ob_meaning.specs.ByPositionObject as Effects
 use Rattle.ob_meaning.specs.ByPositionStore.{Activation}

@@ -9,7 +9,7 @@ use Rattle.ob_meaning.specs.ByNameObject as Named
 use Rattle.ob_object_compile.specs.Asked.{Asked}
 use Rattle.ob_object_compile.specs.Compilation.{IsCompilation, ObjectParts}
 use Rattle.ob_text_record.specs.Record.{Record, carried_from}
-use Rattle.ob_object_calls.specs.ReplyLines.{reply_lines}
+use Rattle.ob_object_calls.specs.CallLines.{reply_lines}
 use Rattle.ob_text_record.specs.RecordText.{record_text}
 use Rattle.ob_text_words.specs.ScriptCalls.{ScriptCall}
 use Rattle.ob_typing.specs.Program.{Program}

@@ -16,7 +16,7 @@ use Rattle.ob_text_words.specs.Words.{Word}
 use Rattle.ob_typing.specs.Program.{Program}
 use Rattle.wf_outcomes.specs.Explored.{HasMore}
 use Rattle.wf_outcomes.specs.Outcomes.{AlwaysGood}
-use Rattle.wf_outcomes.specs.Told.{AreOutcomes, IsItself}
+use Rattle.wf_outcomes.specs.OutcomeOrders.{AreOutcomes, IsItself}
 
 -- what is said of a program, a budget, scripts and an opening is said of an object with scripts whose these are
 module _ (s : ScriptedParts) (program : Program) (budget : ℕ) (scripts : List (List ObjectCall)) (opening : Activation)

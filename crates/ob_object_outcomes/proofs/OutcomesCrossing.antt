@@ -20,7 +20,7 @@ use Rattle.ob_typing.specs.Program.{Program}
 use Rattle.wf_history.specs.declared.event.CallId.{CallId}
 use Rattle.wf_outcomes.specs.Merges.{IsPossible}
 use Rattle.wf_outcomes.specs.Outcomes.{AlwaysGood}
-use Rattle.wf_outcomes.specs.Told.{AreOutcomes, CallTold, End, HasBehind, IsItself}
+use Rattle.wf_outcomes.specs.OutcomeOrders.{AreOutcomes, CallTold, End, HasBehind, IsItself}
 
 module _ (program : Program) (budget : ℕ) (good : IsResolved program) where
   abbrev fits : ObjectCall → Type 0

@@ -21,7 +21,7 @@ use Rattle.ob_object_outcomes.specs.declared.finding.OutcomesFault.{OutcomesFaul
 use Rattle.ob_object_outcomes.specs.declared.finding.OutcomesFault.TheVariants as Faults
 use Rattle.ob_text_words.specs.Words.{Word}
 use Rattle.wf_outcomes.specs.Outcomes.{AlwaysGood}
-use Rattle.wf_outcomes.specs.Told.{AreOutcomes, IsItself}
+use Rattle.wf_outcomes.specs.OutcomeOrders.{AreOutcomes, IsItself}
 
 module _ (a : Asked) (script : List ℕ) (s : ScriptedParts) (is : IsScripted a script s) (fit : AreFitting s) where
   resolved : IsResolved s.object.program

@@ -15,7 +15,7 @@ use Rattle.ob_typing.specs.Program.{Program}
 use Rattle.wf_outcomes.specs.declared.exploring.ExploreFault.{ExploreFault}
 use Rattle.wf_outcomes.specs.declared.exploring.ExploreFault.TheVariants as Explore
 use Rattle.wf_outcomes.specs.Explored.{HasMore}
-use Rattle.wf_outcomes.specs.Told.{IsItself}
+use Rattle.wf_outcomes.specs.OutcomeOrders.{IsItself}
 use Rattle.wf_whole_outcomes.proofs.Merging.{more_told_by}
 use Rattle.wf_whole_outcomes.specs.Tellings.{HasMoreTold}
 use Rattle.wf_whole_outcomes.specs.Wholes.{AreWholes, WholeTold}

@@ -17,7 +17,7 @@ use Rattle.ob_object_outcomes.proofs.WholesSimulated.{over, tells_there}
 use Rattle.ob_meaning.specs.ByPositionObject.{Effect, effect}
 use Rattle.ob_meaning.specs.ByPositionStore.{Activation}
 use Rattle.ob_typing.specs.Program.{Program}
-use Rattle.wf_outcomes.specs.Told.{IsItself}
+use Rattle.wf_outcomes.specs.OutcomeOrders.{IsItself}
 use Rattle.wf_whole_outcomes.specs.Wholes.{AreWholes, WholeTold}
 
 module _ (program : Program) (budget : ℕ) (good : IsResolved program) where

@@ -23,7 +23,7 @@ use Rattle.ob_object_outcomes.proofs.WholesCrossing.{wholes_named}
 use Rattle.ob_object_outcomes.specs.Wholes.{AreWholesOf, AreWholesPlaced, IsWholesFault, IsWholesFaultHere}
 use Rattle.ob_meaning.specs.ByPositionStore.{Activation}
 use Rattle.ob_text_words.specs.Words.{Word}
-use Rattle.wf_outcomes.specs.Told.{IsItself}
+use Rattle.wf_outcomes.specs.OutcomeOrders.{IsItself}
 use Rattle.wf_whole_outcomes.specs.Wholes.{AreWholes, WholeTold}
 
 module _ (a : Asked) (script : List ℕ) (s : ScriptedParts) (is : IsScripted a script s) (fit : AreFitting s) where

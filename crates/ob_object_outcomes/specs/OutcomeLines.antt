@@ -9,7 +9,7 @@ use Rattle.ob_text_record.specs.RecordText.{order_text}
 use Rattle.ob_text_record.specs.Variables.{state_text}
 use Rattle.ob_typing.specs.Program.{Variable}
 use Rattle.wf_history.specs.declared.event.CallId.{CallId}
-use Rattle.wf_outcomes.specs.Told.{CallTold, End, Told}
+use Rattle.wf_outcomes.specs.OutcomeOrders.{CallTold, End, Told}
 
 -- a reply that a call may have, and behind it the calls that lead to it
 abbrev pub told_lines : CallId → Told Reply → List ℕ

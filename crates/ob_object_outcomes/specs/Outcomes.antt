@@ -10,7 +10,7 @@ use Rattle.ob_object_outcomes.specs.Scripted.{ScriptedParts, IsScripted}
 use Rattle.ob_object_outcomes.specs.OutcomesView.{Outcomes}
 use Rattle.ob_text_words.specs.Words.{Word}
 use Rattle.wf_outcomes.specs.Outcomes.{AlwaysGood}
-use Rattle.wf_outcomes.specs.Told.{AreOutcomes, IsItself}
+use Rattle.wf_outcomes.specs.OutcomeOrders.{AreOutcomes, IsItself}
 
 -- ---- of an object with scripts, where variables go by their positions
 

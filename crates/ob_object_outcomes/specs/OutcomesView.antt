@@ -7,7 +7,7 @@ use Rattle.ob_object_outcomes.specs.declared.finding.ModuleOutcomes.{ModuleOutco
 use Rattle.ob_meaning.specs.ByPositionStore.{Activation}
 use Rattle.ob_store.specs.View.{state_of}
 use Rattle.ob_text_words.specs.Words.{Word}
-use Rattle.wf_outcomes.specs.Told.{CallTold, End}
+use Rattle.wf_outcomes.specs.OutcomeOrders.{CallTold, End}
 use Rattle.wf_outcomes.specs.View.{call_in}
 
 -- the replies that each call may have, and the states in which all calls may end

@@ -12,7 +12,7 @@ use Rattle.ob_object_outcomes.specs.declared.finding.OutcomesFault.{OutcomesFaul
 use Rattle.ob_object_outcomes.specs.declared.finding.OutcomesFault.TheVariants as Faults
 use Rattle.ob_meaning.specs.ByPositionStore.{Activation}
 use Rattle.ob_text_words.specs.Words.{Word}
-use Rattle.wf_outcomes.specs.Told.{IsItself}
+use Rattle.wf_outcomes.specs.OutcomeOrders.{IsItself}
 use Rattle.wf_whole_outcomes.specs.Tellings.{HasMoreTold}
 use Rattle.wf_whole_outcomes.specs.Wholes.{AreWholes, WholeTold}
 

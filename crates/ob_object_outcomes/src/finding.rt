@@ -15,7 +15,7 @@ ghost use Rattle.ob_object_search.specs.Kept.{kept_in};
 ghost use Rattle.ob_store.specs.View.{state_of};
 ghost use Rattle.wf_outcomes.specs.Explored.{calls_in};
 ghost use Rattle.wf_outcomes.specs.Outcomes.{AlwaysGood};
-ghost use Rattle.wf_outcomes.specs.Told.{AreOutcomes, IsItself};
+ghost use Rattle.wf_outcomes.specs.OutcomeOrders.{AreOutcomes, IsItself};
 ghost use Rattle.wf_outcomes.specs.View.{call_in, end_in};
 
 use crate::question::{call_of, passed, question_named};

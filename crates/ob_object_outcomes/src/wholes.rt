@@ -14,7 +14,7 @@ ghost use Rattle.ob_object_outcomes.specs.Wholes.{AreWholesOf, AreWholesPlaced, 
 ghost use Rattle.ob_store.specs.View.{state_of};
 ghost use Rattle.wf_outcomes.specs.Explored.{calls_in};
 ghost use Rattle.wf_outcomes.specs.Outcomes.{AlwaysGood};
-ghost use Rattle.wf_outcomes.specs.Told.{IsItself};
+ghost use Rattle.wf_outcomes.specs.OutcomeOrders.{IsItself};
 ghost use Rattle.wf_whole_outcomes.specs.Wholes.{AreWholes};
 
 use crate::{Bounds, OutcomesFault, Scripted, must_hold, question_asked, scripted_text};

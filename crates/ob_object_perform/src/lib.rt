@@ -8,13 +8,12 @@
 pub mod bound_laws;
 pub mod bounding;
 pub mod drawing;
-mod lines;
 pub mod numbers;
 pub mod perform_laws;
 pub mod perform_printing;
 pub mod perform_running;
 pub mod performing;
-mod recording;
+mod spent_lines;
 pub mod spent_printing;
 mod spent_running;
 pub mod stating;
@@ -22,6 +21,7 @@ pub mod texts;
 pub mod tree_laws;
 pub mod tree_performing;
 pub mod tree_printing;
+mod tree_recording;
 mod tree_running;
 
 pub use bounding::bound_text;

@@ -9,8 +9,8 @@ ghost use Rattle.ob_object_perform.specs.Texts.{texts_of};
 ghost use Rattle.ob_text_record.specs.Record.{record_of};
 ghost use Rattle.ob_object_perform.specs.Spent.{IsPrintedWithSteps, IsWithSteps};
 
-use crate::lines::steps_text;
 use crate::performing::read_texts;
+use crate::spent_lines::steps_text;
 use crate::spent_running::run_with_steps;
 use crate::{PerformFault, Texts};
 use ob_checked::checked::Checked;

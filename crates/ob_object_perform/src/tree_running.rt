@@ -7,7 +7,7 @@ ghost use Rattle.ob_object_perform.specs.Performance.{IsMeantIn, IsReady, IsRunF
 ghost use Rattle.ob_text_record.specs.Record.{record_of};
 ghost use Rattle.wf_history.specs.History.{IsHistory};
 
-use crate::recording::record_tree_run;
+use crate::tree_recording::record_tree_run;
 use ob_object_compile::TreeObject;
 use ob_object_run::laws::states_are_objects;
 use ob_text_record::{Record, carried_copy};

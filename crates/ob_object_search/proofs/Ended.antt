@@ -5,7 +5,7 @@ use Rattle.std.proofs.lemmas.List.{length-map}
 use Rattle.std.proofs.lemmas.Option.{same_Some, slice_get-map, slice_get_within}
 use Rattle.std.specs.List.{slice_get}
 use Rattle.ob_interface.specs.Call.{ObjectCall, Reply}
-use Rattle.ob_object_search.specs.Evidence.{EndsNowhere}
+use Rattle.ob_object_search.specs.EndEvidence.{EndsNowhere}
 use Rattle.ob_text_reading.specs.Names.{named, named_all}
 use Rattle.wf_order.proofs.Nexts.{next_whole}
 use Rattle.wf_history.proofs.Positions.{place_of}

@@ -5,7 +5,7 @@ use Rattle.std.proofs.lemmas.List.{take-map}
 use Rattle.std.proofs.lemmas.Option.{slice_get-get_or}
 use Rattle.ob_interface.specs.Call.{ObjectCall, Reply}
 use Rattle.ob_object_search.proofs.Renamed.{ComesBack, Renames, at_map, at_mapped, has_unnamed, last_named, legal_named, legal_there, needless_named, needless_there, place_found, place_in, turned, turned_back}
-use Rattle.ob_object_search.specs.Here.{IsPartHere, named_call, named_part}
+use Rattle.ob_object_search.specs.NumberedParts.{IsPartHere, named_call, named_part}
 use Rattle.ob_text_reading.specs.Names.{AreApart, AreBelow, IsBelow, named_id}
 use Rattle.wf_history.proofs.Positions.{contains_at, place_of, place_take, same_call}
 use Rattle.wf_history.specs.declared.event.CallId.{CallId}

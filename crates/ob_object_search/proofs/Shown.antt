@@ -11,7 +11,7 @@ use Rattle.ob_object_run.specs.LegalOrder.{CallEnds}
 use Rattle.ob_object_search.proofs.Renamed.{has_named}
 use Rattle.ob_object_search.specs.Found.{HasOrderHere, IsNeededHere}
 use Rattle.ob_object_search.proofs.Fronts.{below_front, named_front}
-use Rattle.ob_object_search.specs.Evidence.{CouldEnd, EndsNowhere, HasEvidence, IsNoEnd, Shows}
+use Rattle.ob_object_search.specs.EndEvidence.{CouldEnd, EndsNowhere, HasEvidence, IsNoEnd, Shows}
 use Rattle.ob_object_search.specs.declared.showing.Evidence.{Evidence}
 use Rattle.ob_object_search.specs.Heard.{IsHeard}
 use Rattle.ob_object_search.specs.declared.recording.Heard as Heards

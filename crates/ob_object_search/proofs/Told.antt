@@ -10,7 +10,7 @@ use Rattle.ob_object_run.specs.LegalOrder.{CallEnds}
 use Rattle.ob_object_search.specs.Found.{IsEnoughHere}
 use Rattle.ob_object_search.specs.Searched.{HasBeginning, budget_of}
 use Rattle.ob_object_search.proofs.Picked.{below_part, fewer_events, none_short, part_named, picked_once, picked_size, short_named, values_named, values_once}
-use Rattle.ob_object_search.specs.Here.{AreEnoughHere, AreOrdersHere, HasOrderHere, IsFaultHere, IsFirstFault, IsPartFault, IsPartHere, IsShortHere, named_part}
+use Rattle.ob_object_search.specs.NumberedParts.{AreEnoughHere, AreOrdersHere, HasOrderHere, IsFaultHere, IsFirstFault, IsPartFault, IsPartHere, IsShortHere, named_part}
 use Rattle.ob_object_search.specs.Parted.{AreNeeded, AreOrders, HasNeededOrders, HasPartOrder, HasPartOrders, PartOrder}
 use Rattle.ob_object_search.specs.Parted as Parted
 use Rattle.ob_object_search.specs.PartedFaults.{HasManyParts, HasPartsFault, IsUndecided, PartCeases, TellsMemoryApart, of_open, of_reading}

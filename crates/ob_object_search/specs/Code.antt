@@ -7,8 +7,8 @@ use Rattle.ob_interface.specs.Call.{ObjectCall}
 use Rattle.ob_interface.specs.View.{reply_of}
 use Rattle.ob_interface.specs.declared.scalar.Scalar.{Scalar}
 use Rattle.ob_object_run.specs.LegalOrder.{CallEnds}
-use Rattle.ob_object_search.specs.declared.coded.Made.{Made}
-use Rattle.ob_object_search.specs.declared.coded.ModuleCode.{ModuleCode}
+use Rattle.ob_object_search.specs.declared.scalar_calls.Made.{Made}
+use Rattle.ob_object_search.specs.declared.scalar_calls.ModuleCode.{ModuleCode}
 use Rattle.ob_typing.specs.Program.{Program}
 
 -- where there is code, it is that of the program, each call with so many turns

@@ -1,9 +1,9 @@
 pub mod Agreeing
 pub mod Code
-pub mod Evidence
+pub mod EndEvidence
 pub mod Found
 pub mod Heard
-pub mod Here
+pub mod NumberedParts
 pub mod Kept
 pub mod Laws
 pub mod Parted

@@ -2,7 +2,7 @@
 
 ghost use Rattle.std.specs.Prelude.{◌≡◌, ◌↔◌, IsTrue, MatchOption, Some, map, slice_get};
 ghost use Rattle.ob_interface.specs.Call.{Reply};
-ghost use Rattle.ob_object_search.specs.Evidence.{EndsNowhere};
+ghost use Rattle.ob_object_search.specs.EndEvidence.{EndsNowhere};
 ghost use Rattle.ob_text_reading.specs.Names.{named, named_all, named_id};
 ghost use Rattle.wf_history.specs.History.{End};
 ghost use Rattle.wf_history.specs.View.{event_of};

@@ -11,8 +11,8 @@ ghost use Rattle.ob_object_search.specs.Kept.{kept_in};
 ghost use Rattle.ob_store.specs.View.{state_of};
 ghost use Rattle.wf_history.specs.View.{seen_call};
 
-use crate::coded::{ModuleCode, module_code};
 use crate::kept::{KeptState, kept};
+use crate::scalar_calls::{ModuleCode, module_code};
 use ob_carry::exports::read_only_exports;
 use ob_checked::checked::Checked;
 use ob_interface::NoMemory;

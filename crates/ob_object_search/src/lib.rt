@@ -6,24 +6,24 @@
 #![tactic(auto)]
 
 mod candidates;
-mod coded;
-pub mod copying;
 mod ending;
 pub mod fault;
 pub mod instance;
 pub mod kept;
 pub mod laws;
-pub mod parts_searching;
+pub mod naming_history;
 mod possible;
 pub mod recording;
+mod scalar_calls;
 pub mod searching;
+pub mod searching_parts;
 pub mod showing;
 mod words;
 
 pub use fault::PartsFault;
 pub use instance::ModuleObject;
 pub use kept::KeptState;
-pub use parts_searching::{Part, search_parts_text};
 pub use recording::{RecordingFault, record_of_text};
 pub use searching::{Search, SearchFault, search_text};
+pub use searching_parts::{Part, search_parts_text};
 pub use showing::{Evidence, evidence_of_text};

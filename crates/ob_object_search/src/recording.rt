@@ -17,7 +17,7 @@ ghost use Rattle.ob_text_reading.specs.RecordContents.{carried_of};
 ghost use Rattle.wf_history.specs.Legal.{IsLegal};
 ghost use Rattle.wf_history.specs.declared.event.CallId.{CallId};
 
-use crate::copying::named_history;
+use crate::naming_history::named_history;
 use crate::searching::{budget_of, order_found};
 use crate::{ModuleObject, Search, SearchFault};
 use ob_check::texts::{TextFault, checked_text};

@@ -4,13 +4,13 @@ ghost use Rattle.std.specs.Prelude.{IfErr, IfOk, MatchOption};
 ghost use Rattle.ob_checked.specs.CheckedModule.{program_in};
 ghost use Rattle.ob_object_run.specs.LegalOrder.{CallEnds};
 ghost use Rattle.ob_object_search.specs.SearchFaults.{HasSearchFault, IsSearchFault};
-ghost use Rattle.ob_object_search.specs.Evidence.{HasEvidence, IsEvidence, IsNoEnd, NeverEnds};
+ghost use Rattle.ob_object_search.specs.EndEvidence.{HasEvidence, IsEvidence, IsNoEnd, NeverEnds};
 ghost use Rattle.ob_object_search.specs.Heard.{IsHeard};
 ghost use Rattle.ob_object_calls.specs.Beginnings.{BeginsPlaced, TrapsPlaced};
 
 use crate::candidates::Calls;
-use crate::copying::named_history;
 use crate::ending::end_of;
+use crate::naming_history::named_history;
 use crate::possible::possible_replies;
 use crate::recording::{Heard, hear};
 use crate::searching::order_found;

@@ -10,7 +10,7 @@ use Rattle.ob_store.specs.declared.value.Value as Stored
 use Rattle.ob_text_reading.proofs.OpeningLines.{counted, one_more}
 use Rattle.ob_text_reading.specs.Openings as Openings
 use Rattle.ob_text_reading.specs.Openings.{AreOpenings, IsOpening, OpensWith, StopsAt}
-use Rattle.ob_text_values_reading.proofs.ToldLines.{one_line}
+use Rattle.ob_text_values_reading.proofs.VariableLines.{one_line}
 use Rattle.ob_text_values_reading.specs.RecordTexts.{Line}
 use Rattle.ob_text_values_reading.specs.Variables.{IsVariableLine}
 use Rattle.ob_text_words.specs.Finding.{FindsAs}

@@ -8,7 +8,7 @@ use Rattle.ob_meaning.specs.ByPositionStore.{Activation, Holds}
 use Rattle.ob_meaning.specs.ByPositionValue.{Value}
 use Rattle.ob_text_reading.specs.Openings as Openings
 use Rattle.ob_text_reading.specs.Openings.{AreOpenings, IsOpening}
-use Rattle.ob_text_values_reading.proofs.ToldLines.{one_line}
+use Rattle.ob_text_values_reading.proofs.VariableLines.{one_line}
 use Rattle.ob_text_values_reading.specs.RecordTexts.{Line}
 use Rattle.ob_typing.specs.Program.{DataType, Variable}
 

@@ -5,7 +5,6 @@
 
 pub mod calls;
 mod event;
-mod front;
 pub mod head;
 pub mod history_reading;
 pub mod id;
@@ -19,6 +18,7 @@ mod reader;
 pub mod record_reading;
 pub mod splitting;
 pub mod taking;
+mod text_beginning;
 mod written;
 
 pub use history_reading::{ReadHistory, read_history};

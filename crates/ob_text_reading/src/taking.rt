@@ -3,8 +3,8 @@
 ghost use Rattle.std.specs.Prelude.{◌<◌, length, IfSome, MatchOption};
 ghost use Rattle.ob_text_reading.specs.LineReading.{EndsWord, TakesId, TakesNoId};
 
-use crate::front::front_id;
 use crate::id::read_id;
+use crate::text_beginning::front_id;
 use ob_text_values_reading::words::{is_blank, next_word};
 use wf_history::CallId;
 

@@ -8,8 +8,8 @@ ghost use Rattle.ob_text_words.specs.Words.{words};
 ghost use Rattle.ob_text_reading.specs.LineReading.{TakesBegin, TakesEnd, TakesLine, TakesOrLeaves};
 
 use crate::calls::Calls;
-use crate::front::{front_of, front_word, rest_of_line};
 use crate::line::{export_at, values_in};
+use crate::text_beginning::{front_of, front_word, rest_of_line};
 use ob_interface::NoMemory;
 use ob_interface::export::{Export, Formal};
 use ob_text_words::exports::export_named;

@@ -5,6 +5,6 @@ pub mod OneValue
 pub mod Marks
 pub mod Taken
 pub mod Indexing
-pub mod ToldLines
+pub mod VariableLines
 pub mod Numerals
 pub mod ReadBack

@@ -4,7 +4,7 @@ pub mod Versions
 pub mod ValueTexts
 pub mod Taking
 pub mod Variables
-pub mod ToldValues
+pub mod ReadValues
 pub mod Indexed
 pub mod Turns
 pub mod Printed

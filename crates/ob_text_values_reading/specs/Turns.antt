@@ -2,7 +2,7 @@
 use Rattle.std.specs.Prelude.{◌≡◌, ℕ, ◌+◌, List, [], ◌∷◌, ◌++◌, length, Bool, true, false}
 use Rattle.ob_carry.specs.Carried.{Entry}
 use Rattle.ob_text_values_reading.specs.RecordTexts.{Line}
-use Rattle.ob_text_values_reading.specs.ToldValues.{AreTold, LeadsOn}
+use Rattle.ob_text_values_reading.specs.ReadValues.{AreTold, LeadsOn}
 use Rattle.ob_text_values_reading.specs.declared.reading.ValuesFault.{ValuesFault}
 use Rattle.ob_text_values_reading.specs.declared.reading.ValuesFault.TheVariants as Faults
 

@@ -7,7 +7,7 @@ ghost use Rattle.ob_text_words.specs.Words.{lines, words};
 ghost use Rattle.ob_text_values_reading.specs.Indexed.{IsIndexed};
 ghost use Rattle.ob_text_values_reading.specs.RecordTexts.{lines_behind};
 ghost use Rattle.ob_text_values_reading.specs.Comments.{said};
-ghost use Rattle.ob_text_values_reading.specs.ToldValues.{AreValuesIn, AreValuesOf, FaultStands, IsValuesFault};
+ghost use Rattle.ob_text_values_reading.specs.ReadValues.{AreValuesIn, AreValuesOf, FaultStands, IsValuesFault};
 ghost use Rattle.ob_text_values_reading.specs.Turns.{FaultBehind, TellsBehind, TellsLine};
 
 use crate::comments::{line_number, may_have_comments, without_comments};

@@ -5,7 +5,7 @@ use Rattle.ob_interface.specs.declared.scalar.Scalar.{Scalar}
 use Rattle.ob_interface.specs.Call.{ObjectCall}
 use Rattle.ob_mean.specs.Outside.{outside_store}
 use Rattle.ob_meaning.specs.ByPositionStore.{Activation, Store}
-use Rattle.ob_traps.specs.Object.{export_number, site_in_procedure, site_of_call}
+use Rattle.ob_traps.specs.TrapOfCall.{export_number, site_in_procedure, site_of_call}
 use Rattle.ob_typing.specs.Program.{Procedure, Program, exports}
 use Rattle.ob_traps.specs.Running.{site_in}
 

@@ -13,7 +13,7 @@ use Rattle.ob_meaning.specs.ByPositionObject as Objects
 use Rattle.ob_meaning.specs.ByPositionObject.{results_begun, outside_handed}
 use Rattle.ob_meaning.specs.ByPositionEvaluation.{by_position}
 use Rattle.ob_traps.specs.Site.{Explains, Site, Sited, Yields, TrapsAt, of_procedure, site_of, outcome}
-use Rattle.ob_traps.specs.Object.{export_number, run_outside, site_in_procedure, site_of_call, site_of_opening, opening, trap_of, trap_of_run}
+use Rattle.ob_traps.specs.TrapOfCall.{export_number, run_outside, site_in_procedure, site_of_call, site_of_opening, opening, trap_of, trap_of_run}
 use Rattle.ob_traps.proofs.WithoutSites.{body_same}
 use Rattle.ob_traps.proofs.Explained.{body_explained, in_procedure, of_site}
 

@@ -10,7 +10,7 @@ use Rattle.ob_checked.proofs.Rows.{expression_of-computed}
 use Rattle.ob_meaning.specs.ByPositionStore.{Store}
 use Rattle.ob_meaning.specs.ByPositionEvaluation.{by_position}
 use Rattle.ob_traps.specs.Site.{Yields, of_part, ◌>>=◌}
-use Rattle.ob_traps.specs.OverStore.{value_of, value_behind}
+use Rattle.ob_traps.specs.SitesOverStore.{value_of, value_behind}
 
 -- where the first operand gives x, the value of all is what the operators and operands behind it make of x
 pub chain_begins : (store : Store) (e f : Expression) (first : Box Expression Global) (rest : Vec Operation Global) (x : Scalar) (operations : List Operation) →

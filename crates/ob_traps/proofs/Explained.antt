@@ -8,7 +8,7 @@ use Rattle.ob_typing.specs.Arithmetic.{Evaluated, Gives, Traps, number_of, compu
 use Rattle.ob_meaning.specs.OverStore.{Stores, within}
 use Rattle.ob_traps.specs.Site.{Cause, Explains, Site, Operating, Negating, Indexing, Turning, here, Sited, Yields, TrapsAt, at, of_part, of_procedure, site_of}
 use Rattle.ob_traps.specs.Site as Sited
-use Rattle.ob_traps.specs.OverStore as Sites
+use Rattle.ob_traps.specs.SitesOverStore as Sites
 
 abbrev bind : {A B : Type 0} → Sited A → (A → Sited B) → Sited B
 bind = Sited.◌>>=◌

@@ -16,8 +16,8 @@ use Rattle.ob_meaning.specs.ByPositionStatements.{activation_of, begun}
 use Rattle.ob_meaning.specs.ByPositionObject.{results_begun, outside_handed}
 use Rattle.ob_meaning.specs.ByPositionEvaluation.{by_position}
 use Rattle.ob_traps.specs.Site.{Site, Sited, Yields, TrapsAt, of_procedure, called, site_of}
-use Rattle.ob_traps.specs.OverStore as Sites
-use Rattle.ob_traps.specs.Object.{export_number, site_in_procedure, site_of_call, site_of_opening, opening}
+use Rattle.ob_traps.specs.SitesOverStore as Sites
+use Rattle.ob_traps.specs.TrapOfCall.{export_number, site_in_procedure, site_of_call, site_of_opening, opening}
 use Rattle.ob_traps.proofs.CallSites.{export_here}
 use Rattle.ob_traps.specs.Places.{Places, Parts, no_part, before, itself, places_in_body, places_in_one, places_in_module, bodies_of, bodies_in, place_of}
 use Rattle.ob_traps.proofs.Landing as Landing

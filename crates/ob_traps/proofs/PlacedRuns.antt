@@ -10,7 +10,7 @@ use Rattle.ob_typing.specs.Statements as Typing
 use Rattle.ob_typing.specs.Statements.{listed, IsStatement, AreStatements, AreBranches, IsBody}
 use Rattle.ob_meaning.specs.OverStore.{Stores}
 use Rattle.ob_traps.specs.Site.{Turning, here, Sited, Yields, TrapsAt, of_part}
-use Rattle.ob_traps.specs.OverStore as Sites
+use Rattle.ob_traps.specs.SitesOverStore as Sites
 use Rattle.ob_traps.specs.Places.{Places, Parts, no_part, before, itself, of_parts, places_in, parts_of_selectors, parts_of_actuals, unless_empty, places_in_statement, parts_of_statements, parts_of_branches, parts_of_else, places_in_body}
 use Rattle.ob_traps.proofs.Landing.{bind, Fits, FitsFrom, bound_from, whole, later, first_part, this_part}
 use Rattle.ob_traps.proofs.PlacedValues.{value, variable, all_handed}

@@ -16,7 +16,7 @@ use Rattle.ob_typing.specs.Statements as TypedStatements
 use Rattle.ob_typing.specs.Statements.{IsActual, Fits as ActualsFit, unless_constant, bare}
 use Rattle.ob_meaning.specs.OverStore.{Stores, within}
 use Rattle.ob_traps.specs.Site.{Cause, Operating, Negating, Indexing, Sited, Yields, at, of_part}
-use Rattle.ob_traps.specs.OverStore as Sites
+use Rattle.ob_traps.specs.SitesOverStore as Sites
 use Rattle.ob_traps.specs.Places.{Places, Parts, no_part, before, itself, of_parts, with_behind, signed, places_in, parts_of_operands, parts_of_selectors, parts_of_actuals}
 use Rattle.ob_traps.proofs.Landing.{bind, Fits, FitsFrom, bound, bound_from, whole, later, first_part, at_part}
 

@@ -10,7 +10,7 @@ use Rattle.ob_meaning.specs.ByPositionObject.{Effect, effect, effect_of, effect_
 use Rattle.ob_meaning.specs.ByPositionStatements.{Outcome, Done, Trap}
 use Rattle.ob_meaning.specs.ByPositionStore.{Activation}
 use Rattle.ob_traps.proofs.CallSites.{call_trap}
-use Rattle.ob_traps.specs.Object.{site_of_call, trap_of}
+use Rattle.ob_traps.specs.TrapOfCall.{site_of_call, trap_of}
 use Rattle.ob_traps.specs.Site.{Site}
 use Rattle.ob_typing.specs.Program.{Procedure, Program, exports}
 use Rattle.ob_traps.specs.Sequence.{sites_from}

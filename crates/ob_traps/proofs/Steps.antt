@@ -17,7 +17,7 @@ use Rattle.ob_meaning.specs.ByPositionEvaluation.{by_position}
 use Rattle.ob_mean.proofs.Runs.{drop_here}
 use Rattle.ob_traps.specs.Site.{Site, Activating, Turning, here, outcome, Sited, Yields, TrapsAt, of_part, of_procedure}
 use Rattle.ob_traps.specs.Site as Sites
-use Rattle.ob_traps.specs.OverStore as Sited
+use Rattle.ob_traps.specs.SitesOverStore as Sited
 use Rattle.ob_traps.specs.declared.site.Halt.{Halt}
 use Rattle.ob_traps.specs.declared.site.Halt.TheVariants as Halts
 use Rattle.ob_traps.specs.Reaching.{site_of, HaltsAs, IsWithin, Reaches}

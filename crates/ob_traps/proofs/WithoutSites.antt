@@ -10,7 +10,7 @@ use Rattle.ob_meaning.specs.OverStore as Plain
 use Rattle.ob_meaning.specs.OverStore.{Stores, Outcome, Done, Trap, within}
 use Rattle.ob_traps.specs.Site.{Cause, Operating, Negating, Indexing, Turning, here, Sited, Yields, TrapsAt, at, of_part, of_procedure, evaluated, outcome}
 use Rattle.ob_traps.specs.Site as Site
-use Rattle.ob_traps.specs.OverStore as Sites
+use Rattle.ob_traps.specs.SitesOverStore as Sites
 
 abbrev bind : {A B : Type 0} → Sited A → (A → Sited B) → Sited B
 bind = Site.◌>>=◌

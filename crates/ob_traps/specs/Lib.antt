@@ -1,6 +1,6 @@
 pub mod Bodies
-pub mod Object
-pub mod OverStore
+pub mod TrapOfCall
+pub mod SitesOverStore
 pub mod Places
 pub mod PlacesLaws
 pub mod Reaching

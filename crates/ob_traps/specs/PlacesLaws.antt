@@ -6,7 +6,7 @@ use Rattle.ob_typing.specs.Program.{Program}
 use Rattle.ob_typing.specs.Declarations.{WellTyped}
 use Rattle.ob_meaning.specs.ByPositionStore.{Activation}
 use Rattle.ob_traps.specs.Site.{Site}
-use Rattle.ob_traps.specs.Object.{site_of_call, site_of_opening}
+use Rattle.ob_traps.specs.TrapOfCall.{site_of_call, site_of_opening}
 use Rattle.ob_traps.specs.Places.{place_of}
 
 -- where a call on the object of a well typed module traps, the operation has a place in the module

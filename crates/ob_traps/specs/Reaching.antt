@@ -9,7 +9,7 @@ use Rattle.ob_meaning.specs.ByPositionStore.{Store}
 use Rattle.ob_meaning.specs.ByPositionEvaluation.{by_position}
 use Rattle.ob_traps.specs.Site as Sites
 use Rattle.ob_traps.specs.Site.{Sited, Yields, TrapsAt, of_part}
-use Rattle.ob_traps.specs.OverStore.{value_of, applied, indexed}
+use Rattle.ob_traps.specs.SitesOverStore.{value_of, applied, indexed}
 use Rattle.ob_traps.specs.declared.site.Cause.{Cause}
 use Rattle.ob_traps.specs.declared.site.Cause.TheVariants as Causes
 use Rattle.ob_traps.specs.declared.site.Site.{Site}

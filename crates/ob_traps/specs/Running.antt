@@ -12,8 +12,8 @@ use Rattle.ob_mean.specs.declared.statements.Context.{Context}
 use Rattle.ob_meaning.specs.ByPositionStore.{Held, Store}
 use Rattle.ob_meaning.specs.ByPositionEvaluation.{by_position}
 use Rattle.ob_traps.specs.Site.{Site, Sited, Yields, TrapsAt, of_part, of_procedure, site_of}
-use Rattle.ob_traps.specs.OverStore as Sited
-use Rattle.ob_traps.specs.Object.{export_number}
+use Rattle.ob_traps.specs.SitesOverStore as Sited
+use Rattle.ob_traps.specs.TrapOfCall.{export_number}
 use Rattle.ob_typing.specs.Program.{Designator, Expression, Statement, Assign, While, Repeat, Statements, Procedure, Program, exports}
 use Rattle.ob_meaning.specs.ByNameObject.{most_activations}
 use Rattle.ob_traps.specs.declared.site.Halt.{Halt}

@@ -3,7 +3,7 @@ use Rattle.std.specs.Prelude.{◌≡◌, ℕ, List, [], ◌∷◌, Option}
 use Rattle.ob_interface.specs.Call.{ObjectCall, Reply}
 use Rattle.ob_meaning.specs.ByPositionObject.{Effect, effect}
 use Rattle.ob_meaning.specs.ByPositionStore.{Activation}
-use Rattle.ob_traps.specs.Object.{site_of_call}
+use Rattle.ob_traps.specs.TrapOfCall.{site_of_call}
 use Rattle.ob_traps.specs.Site.{Site}
 use Rattle.ob_typing.specs.Program.{Program}
 

@@ -10,8 +10,8 @@ use Rattle.ob_meaning.specs.ByPositionObject as Objects
 use Rattle.ob_meaning.specs.ByPositionStatements as Positions
 use Rattle.ob_meaning.specs.ByPositionStore.{Activation, Store}
 use Rattle.ob_traps.specs.Site.{Site, Explains, evaluated, outcome}
-use Rattle.ob_traps.specs.OverStore as Sites
-use Rattle.ob_traps.specs.Object.{export_number, site_of_call, site_of_opening, opening, trap_of, trap_of_run}
+use Rattle.ob_traps.specs.SitesOverStore as Sites
+use Rattle.ob_traps.specs.TrapOfCall.{export_number, site_of_call, site_of_opening, opening, trap_of, trap_of_run}
 
 -- without the sites, the value of an expression is that of the meaning by position
 abbrev pub ValuesAreOfTheMeaning : Type 0

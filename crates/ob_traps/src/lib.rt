@@ -4,17 +4,17 @@
 //! `sites_in_turn` and `place_of`, which are in the words of `specs/`.
 #![tactic(auto)]
 
-mod expressions;
-pub mod lookup_places;
-mod lookup_statements;
+mod expression_places;
+pub mod handed_places;
 pub mod object;
 pub mod opening;
 mod outside;
 pub mod places_laws;
 mod procedures;
-pub mod runs_statements;
 pub mod sequence;
 pub mod site;
+pub mod site_places;
+pub mod sited_statements;
 pub mod sites_laws;
+mod statement_places;
 pub mod values;
-pub mod values_places;

@@ -6,13 +6,13 @@ ghost use Rattle.ob_checked.specs.View.{procedure_of, table_of};
 ghost use Rattle.ob_mean.specs.Outside.{outside_store};
 ghost use Rattle.ob_mean.specs.View.{call_of};
 ghost use Rattle.ob_store.specs.View.{state_of, store_in};
-ghost use Rattle.ob_traps.specs.Object as Sites;
+ghost use Rattle.ob_traps.specs.TrapOfCall as Sites;
 ghost use Rattle.ob_traps.specs.Reaching.{site_of};
 ghost use Rattle.ob_traps.specs.Running.{IsExportFound, site_outside};
 
 use crate::outside::{outside_handed, results_begun};
-use crate::runs_statements::run;
 use crate::site::{Halt, Site, within_procedure};
+use crate::sited_statements::run;
 use ob_checked::checked::Checked;
 use ob_checked::program::{Procedure, Program};
 use ob_interface::NoMemory;

@@ -4,11 +4,11 @@ ghost use Rattle.std.specs.Prelude.{◌≡◌, IfOk, option_map};
 ghost use Rattle.ob_checked.specs.CheckedModule.{program_in};
 ghost use Rattle.ob_checked.specs.View.{program_of};
 ghost use Rattle.ob_meaning.specs.ByNameObject.{most_turns};
-ghost use Rattle.ob_traps.specs.Object as Sites;
+ghost use Rattle.ob_traps.specs.TrapOfCall as Sites;
 ghost use Rattle.ob_traps.specs.Reaching.{site_of};
 
-use crate::runs_statements::run;
 use crate::site::{Halt, Site};
+use crate::sited_statements::run;
 use ob_checked::checked::Checked;
 use ob_checked::program::Program;
 use ob_interface::NoMemory;

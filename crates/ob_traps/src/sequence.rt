@@ -5,7 +5,7 @@ ghost use Rattle.ob_checked.specs.CheckedModule.{program_in};
 ghost use Rattle.ob_mean.specs.View.{call_of, reply_of};
 ghost use Rattle.ob_meaning.specs.ByPositionObject.{effect};
 ghost use Rattle.ob_store.specs.View.{state_of};
-ghost use Rattle.ob_traps.specs.Object as Sites;
+ghost use Rattle.ob_traps.specs.TrapOfCall as Sites;
 ghost use Rattle.ob_traps.specs.Reaching.{site_of};
 ghost use Rattle.ob_traps.specs.Sequence.{IsSiteBehind, sites_from};
 

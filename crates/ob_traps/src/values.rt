@@ -8,7 +8,7 @@ ghost use Rattle.ob_store.specs.View.{place_in, store_in};
 ghost use Rattle.ob_interface.specs.declared.scalar.ScalarType.TheVariants.{Integer};
 ghost use Rattle.ob_typing.specs.Program as Programs;
 ghost use Rattle.ob_traps.specs.Site as Sites;
-ghost use Rattle.ob_traps.specs.OverStore as Sited;
+ghost use Rattle.ob_traps.specs.SitesOverStore as Sited;
 ghost use Rattle.ob_traps.specs.Reaching.{Reaches, applied_in, position_in};
 
 use crate::site::{Cause, Halt, at, inside};

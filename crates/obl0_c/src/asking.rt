@@ -4,7 +4,7 @@ ghost use Rattle.std.specs.Prelude.{IfOk, map, option_map};
 ghost use Rattle.ob_answer_files.specs.Printed.{IsRefused};
 ghost use Rattle.obl0_c.specs.Asked.{AreWordsIn, IsJoinedAnswer, IsTextsAnswer, IsWordsAnswer};
 
-use crate::keys::FixedKeys;
+use crate::fixed_keys::FixedKeys;
 use ob_answer::answer::{Alone, answer_alone};
 use ob_answer_files::answered::Answer;
 use ob_answer_files::handed_files::GivenFiles;

@@ -12,20 +12,22 @@ ghost use Rattle.ob_object_perform.specs.Texts.{run_texts};
 ghost use Rattle.obl0_c.specs.Asked.{IsJoinedAnswer, module_name};
 
 use crate::asking::answer_joined;
-use crate::keys::FixedKeys;
+use crate::fixed_keys::FixedKeys;
 use crate::texts::{beginning, object};
-use ob_answer::making::{answer_check, answer_picture, answer_record, answer_seq, answer_verify};
+use ob_answer::text_answers::{
+    answer_check, answer_picture, answer_record, answer_seq, answer_verify,
+};
 use ob_answer_explained::explaining::explain_module;
 use ob_answer_files::handing::{hand, hand_whole};
 use ob_answer_files::texts::Joined;
-use ob_answer_searches::ordering::answer_order;
+use ob_answer_searches::order_answers::answer_order;
 use ob_command::command::{OrderCommand, OrderProduct};
 use ob_interface::MOST_PROCESSES;
 use ob_object_perform::Texts;
 use std::alloc::Global;
 
 mod asking;
-mod keys;
+mod fixed_keys;
 mod texts;
 
 /// The name of a module whose text is handed in.

@@ -9,8 +9,8 @@ use Rattle.wf_history.specs.declared.event.CallId.{CallId}
 use Rattle.wf_history.specs.History.{Event, Begin, Applied, End, Begins, Ends, Before, before, OwnEvent, in_turn, own_events}
 use Rattle.wf_history.specs.Legal as Legal
 use Rattle.wf_history.specs.Legal.{HasBegun, IsLegal, NoRepeats, OneAtATime, RepliesAgree}
-use Rattle.wf_outcome_laws.specs.MergesRuns as Runs
-use Rattle.wf_outcome_laws.specs.MergesRuns.{IsOneByOne, IsRunAlone, IsRunOfScripts, MergesAreLegalOrders}
+use Rattle.wf_outcome_laws.specs.ScriptRuns as Runs
+use Rattle.wf_outcome_laws.specs.ScriptRuns.{IsOneByOne, IsRunAlone, IsRunOfScripts, MergesAreLegalOrders}
 use Rattle.wf_outcomes.specs.Merges.{Configuration, IsStep, Leads, none, more}
 
 from_test : (a b : ℕ) → nat_eq a b ≡ true → a ≡ b

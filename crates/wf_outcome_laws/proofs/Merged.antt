@@ -6,8 +6,8 @@ use Rattle.ob_interface.specs.Call.{ObjectCall, Reply}
 use Rattle.wf_history.specs.declared.event.CallId.{CallId}
 use Rattle.wf_history.specs.History.{Event, Begin, Applied, End, IsHistory}
 use Rattle.wf_history.specs.Legal.{HasBegun, IsLegal}
-use Rattle.wf_outcome_laws.specs.MergesRuns as Runs
-use Rattle.wf_outcome_laws.specs.MergesRuns.{IsOneByOne, IsRunOfScripts}
+use Rattle.wf_outcome_laws.specs.ScriptRuns as Runs
+use Rattle.wf_outcome_laws.specs.ScriptRuns.{IsOneByOne, IsRunOfScripts}
 use Rattle.wf_outcome_laws.proofs.Alone.{are_legal_orders}
 use Rattle.wf_outcome_laws.proofs.Merging.{are_merges}
 use Rattle.wf_outcomes.specs.Merges.{Configuration, IsStep, Leads, none, more, start, full}

@@ -9,7 +9,7 @@ use Rattle.wf_history.specs.declared.event.CallId.{CallId}
 use Rattle.wf_history.specs.History.{Event, End}
 use Rattle.wf_history.specs.Legal as Legal
 use Rattle.wf_history.specs.Legal.{HasBegun, IsLegal, OneAtATime, RepliesAgree}
-use Rattle.wf_outcome_laws.specs.MergesRuns.{IsRunOfScripts, LegalOrdersAreMerges}
+use Rattle.wf_outcome_laws.specs.ScriptRuns.{IsRunOfScripts, LegalOrdersAreMerges}
 use Rattle.wf_order.proofs.Completeness.{complete}
 use Rattle.wf_order.specs.Steps as Search
 use Rattle.wf_outcomes.proofs.Growing.{leads_push, size_step}

@@ -11,12 +11,12 @@ use Rattle.wf_history.specs.Legal as Legal
 use Rattle.wf_history.specs.Legal.{HasBegun, IsLegal, OneAtATime, RepliesAgree}
 use Rattle.wf_outcome_laws.proofs.Alone.{are_legal_orders}
 use Rattle.wf_outcome_laws.proofs.Merging.{all_steps, step_merged}
-use Rattle.wf_outcome_laws.specs.MergesRuns.{IsRunOfScripts}
+use Rattle.wf_outcome_laws.specs.ScriptRuns.{IsRunOfScripts}
 use Rattle.wf_order.specs.Steps as Search
 use Rattle.wf_outcomes.proofs.OutcomesLists.{same_configuration}
 use Rattle.wf_outcomes.specs.Merges as Merges
 use Rattle.wf_outcomes.specs.Merges.{Configuration, IsStep, Leads, full, start}
-use Rattle.wf_outcome_laws.specs.WholeRuns.{HasReplies, RunsGiveWholes, WholesAreOfRuns}
+use Rattle.wf_outcome_laws.specs.WholeOutcomeRuns.{HasReplies, RunsGiveWholes, WholesAreOfRuns}
 use Rattle.wf_whole_outcomes.specs.Tellings.{IsTold, Telling, Tells, none, more, replies_to, silence}
 use Rattle.wf_whole_outcomes.proofs.Merging.{IsOf, behind, of_behind, told_step}
 use Rattle.wf_whole_outcomes.proofs.Numbering.{length_row, map_all}

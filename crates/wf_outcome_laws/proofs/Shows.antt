@@ -6,7 +6,7 @@ use Rattle.ll_cell.specs.Cell.{block_of}
 use Rattle.ob_interface.specs.Call.{ObjectCall}
 use Rattle.wf_history.specs.declared.event.CallId.{CallId}
 use Rattle.wf_history.specs.Legal.{IsLegal}
-use Rattle.wf_outcome_laws.specs.MergesRuns.{IsRunOfScripts}
+use Rattle.wf_outcome_laws.specs.ScriptRuns.{IsRunOfScripts}
 use Rattle.wf_table.specs.Law.{Effects, IsLawful}
 use Rattle.wf_table.specs.Meaning.{Meaning}
 use Rattle.wf_table.specs.Runs.{submissions, turns}

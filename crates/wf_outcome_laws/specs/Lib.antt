@@ -1,3 +1,3 @@
-pub mod MergesRuns
+pub mod ScriptRuns
 pub mod Shown
-pub mod WholeRuns
+pub mod WholeOutcomeRuns

@@ -7,7 +7,7 @@ use Rattle.ll_cell.specs.Cell.{block_of}
 use Rattle.wf_table.specs.Bound.{bound}
 use Rattle.wf_table.specs.Ends.{AllEndWithin}
 use Rattle.wf_history.specs.declared.event.CallId.{CallId}
-use Rattle.wf_outcome_laws.specs.MergesRuns.{IsRunAlone}
+use Rattle.wf_outcome_laws.specs.ScriptRuns.{IsRunAlone}
 use Rattle.wf_outcomes.specs.Merges.{Leads, start, full}
 use Rattle.wf_play.specs.ItemSteps.{AreItemSteps}
 use Rattle.wf_table.specs.declared.process.Sizes.{Sizes}

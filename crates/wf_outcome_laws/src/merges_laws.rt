@@ -1,6 +1,6 @@
 //! Laws of runs of scripts. What a function here ensures is proved; it does nothing.
 
-ghost use Rattle.wf_outcome_laws.specs.MergesRuns.{LegalOrdersAreMerges, MergesAreLegalOrders};
+ghost use Rattle.wf_outcome_laws.specs.ScriptRuns.{LegalOrdersAreMerges, MergesAreLegalOrders};
 ghost use Rattle.wf_outcomes.specs.Explored.{calls_in};
 
 use wf_history::KeptCall;

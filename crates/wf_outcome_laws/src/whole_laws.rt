@@ -1,7 +1,7 @@
 //! Laws of whole outcomes and runs. What a function here ensures is proved; it does nothing.
 
 ghost use Rattle.wf_outcomes.specs.Explored.{calls_in};
-ghost use Rattle.wf_outcome_laws.specs.WholeRuns.{RunsGiveWholes, WholesAreOfRuns};
+ghost use Rattle.wf_outcome_laws.specs.WholeOutcomeRuns.{RunsGiveWholes, WholesAreOfRuns};
 
 use wf_history::KeptCall;
 use wf_order::Object;

@@ -2,7 +2,7 @@
 use Rattle.std.proofs.Common.{◌≡◌, sym, ap, ◌∙◌, subst, List, [], ◌∷◌, ◌++◌, Some, inl, inr}
 use Rattle.std.specs.List.{slice_get}
 use Rattle.wf_history.proofs.Positions.{place_push}
-use Rattle.wf_outcomes.specs.Told.{AreCallsTold, AreRepliesTold, CallTold}
+use Rattle.wf_outcomes.specs.OutcomeOrders.{AreCallsTold, AreRepliesTold, CallTold}
 
 module _ {State Call Reply : Type 0} (Effect : Call → State → State → Reply → Type 0) (scripts : List (List Call)) (opening : State) where
   pub none_told : (calls : List (CallTold Reply)) → calls ≡ [] → AreCallsTold Effect scripts opening calls

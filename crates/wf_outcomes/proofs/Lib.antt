@@ -12,4 +12,4 @@ pub mod OutcomesLists
 pub mod Replying
 pub mod Stepping
 pub mod TellingOrders
-pub mod ToldLists
+pub mod OrderLists

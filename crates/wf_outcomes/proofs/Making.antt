@@ -9,9 +9,9 @@ use Rattle.ob_interface.specs.View.{reply_of}
 use Rattle.wf_history.specs.declared.kept.KeptCall.{KeptCall}
 use Rattle.wf_history.specs.View.{kept_call}
 use Rattle.wf_history.proofs.Positions.{place_push}
-use Rattle.wf_outcomes.specs.declared.made.Made.{Made}
+use Rattle.wf_outcomes.specs.declared.remembered_calls.Made.{Made}
 use Rattle.wf_outcomes.specs.declared.seen.Stated.{Stated}
-use Rattle.wf_outcomes.specs.Made.{AreMade, IsAfter, IsMade, IsNothing, IsRecalled, IsStated}
+use Rattle.wf_outcomes.specs.RememberedCalls.{AreMade, IsAfter, IsMade, IsNothing, IsRecalled, IsStated}
 use Rattle.wf_outcomes.specs.Outcomes.{Answers}
 
 -- what is read behind a write

@@ -8,7 +8,7 @@ use Rattle.wf_history.proofs.Positions.{place_push, place_left, place_of, contai
 use Rattle.wf_outcomes.specs.declared.seen.Found.{Found}
 use Rattle.wf_outcomes.specs.Merges.{Configuration}
 use Rattle.wf_outcomes.specs.Explored.{Kept, kept_in, IsWorded}
-use Rattle.wf_outcomes.specs.Telling.{AreMarks, AreMet, AreTelling, IsMarked, IsMet, IsPlaced}
+use Rattle.wf_outcomes.specs.Meetings.{AreMarks, AreMet, AreTelling, IsMarked, IsMet, IsPlaced}
 use Rattle.wf_outcomes.proofs.OutcomesLists.{map_place, place_map}
 use Rattle.wf_outcomes.proofs.Making.{set_other, set_same}
 

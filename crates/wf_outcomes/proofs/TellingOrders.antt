@@ -10,7 +10,7 @@ use Rattle.wf_outcomes.specs.Explored.{Kept, state_at}
 use Rattle.wf_outcomes.specs.Merges.{Configuration, Leads, start}
 use Rattle.wf_outcomes.specs.Outcomes.{AreFinals, AreReplies, Had, IsHad, LeadsToPlace, reply_had}
 use Rattle.wf_outcomes.proofs.Matching.{Match, across}
-use Rattle.wf_outcomes.specs.Told.{AreEndsTold, AreRepliesTold, End, HasBehind, IsItself, Told, reply_told}
+use Rattle.wf_outcomes.specs.OutcomeOrders.{AreEndsTold, AreRepliesTold, End, HasBehind, IsItself, Told, reply_told}
 
 module _ {State Call Reply : Type 0} (Effect : Call → State → State → Reply → Type 0) (scripts : List (List Call)) (opening : State) (found : List (Kept State)) where
   -- what is told of a reply that the call has at a place

@@ -6,7 +6,7 @@ use Rattle.wf_history.specs.declared.event.CallId.{CallId}
 use Rattle.wf_history.specs.declared.kept.KeptCall.{KeptCall}
 use Rattle.wf_history.specs.View.{kept_call}
 use Rattle.wf_outcomes.specs.declared.seen.Found as Rust
-use Rattle.wf_outcomes.specs.Made.{IsStated}
+use Rattle.wf_outcomes.specs.RememberedCalls.{IsStated}
 use Rattle.wf_outcomes.specs.Merges.{Configuration, total, IsStep, start, IsReached}
 
 -- a configuration that was found, and by a call of which process it was first reached from which place

@@ -1,9 +1,9 @@
 pub mod Explored
-pub mod Made
+pub mod RememberedCalls
 pub mod Merges
 pub mod Outcomes
 pub mod Possible
-pub mod Telling
-pub mod Told
+pub mod Meetings
+pub mod OutcomeOrders
 pub mod View
 pub mod Whole

@@ -2,11 +2,11 @@
 
 ghost use Rattle.std.specs.Prelude.{◌≡◌, ◌<◌, ◌++◌, length, map, get_or, [], IfOk, OnOk};
 ghost use Rattle.wf_outcomes.specs.Explored.{calls_in};
-ghost use Rattle.wf_outcomes.specs.Told.{AreCallsTold, calls_from, calls_of, id_told};
+ghost use Rattle.wf_outcomes.specs.OutcomeOrders.{AreCallsTold, calls_from, calls_of, id_told};
 ghost use Rattle.wf_outcomes.specs.View.{call_in};
 
 use crate::Explored;
-use crate::told_replies::{ToldReply, replies_told};
+use crate::reply_orders::{ToldReply, replies_told};
 use ob_interface::NoMemory;
 use std::alloc::Global;
 use wf_history::CallId;

@@ -2,7 +2,7 @@
 
 ghost use Rattle.std.specs.Prelude.{map, IfOk};
 ghost use Rattle.wf_outcomes.specs.Explored.{calls_in};
-ghost use Rattle.wf_outcomes.specs.Told.{AreEndsTold, IsItself};
+ghost use Rattle.wf_outcomes.specs.OutcomeOrders.{AreEndsTold, IsItself};
 ghost use Rattle.wf_outcomes.specs.View.{end_in};
 
 use crate::Explored;

@@ -2,10 +2,10 @@
 
 ghost use Rattle.wf_outcomes.specs.Explored.{all_kept, calls_in, AreWorded, IsExplored};
 ghost use Rattle.std.specs.Prelude.{length};
-ghost use Rattle.wf_outcomes.specs.Made.{AreMade};
-ghost use Rattle.wf_outcomes.specs.Telling.{AreTelling};
+ghost use Rattle.wf_outcomes.specs.RememberedCalls.{AreMade};
+ghost use Rattle.wf_outcomes.specs.Meetings.{AreTelling};
 
-use crate::made::Memory;
+use crate::remembered_calls::Memory;
 use crate::seen::Seen;
 use wf_history::KeptCall;
 use wf_order::Object;

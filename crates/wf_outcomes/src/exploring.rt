@@ -3,14 +3,14 @@
 ghost use Rattle.std.specs.Prelude.{◌≡◌, ◌<◌, ◌≤◌, ◌+◌, length, replicate, IfOk, OnOk, IsErrOf};
 ghost use Rattle.indexmap.specs.IndexSet.{index_set_len};
 ghost use Rattle.wf_outcomes.specs.Explored.{all_kept, kept_in, calls_in, AreWorded, IsWorded, IsArrival, IsExploring, HasMore};
-ghost use Rattle.wf_outcomes.specs.Made.{AreMade};
+ghost use Rattle.wf_outcomes.specs.RememberedCalls.{AreMade};
 ghost use Rattle.wf_outcomes.specs.Merges.{start};
 
 use crate::explored::Explored;
-use crate::made::{Memory, nothing_made};
+use crate::meetings::telling_places;
+use crate::remembered_calls::{Memory, nothing_made};
 use crate::seen::{Counts, Found, Keys, Seen, Stated};
 use crate::step::{Task, step};
-use crate::telling::telling_places;
 use ob_interface::NoMemory;
 use std::alloc::Global;
 use std::hash::RandomState;

@@ -5,30 +5,30 @@
 //! configurations that as many calls lead to, and which of several orders is told, may change without asking.
 #![tactic(auto)]
 
-pub mod bad;
 pub mod calls;
+pub mod counterexample;
 pub mod ends;
 pub mod explored;
 pub mod exploring;
 pub mod finals;
-pub mod made;
+mod meetings;
 pub mod onward;
 pub mod outcomes;
 pub mod paths;
+pub mod remembered_calls;
 pub mod replies;
+pub mod reply_orders;
 pub mod seen;
 mod step;
-mod telling;
-pub mod told_replies;
 pub mod whole;
 
-pub use bad::{Bad, Question};
 pub use calls::ToldCall;
+pub use counterexample::{Bad, Question};
 pub use ends::ToldEnd;
 pub use explored::Explored;
 pub use exploring::{ExploreFault, explore};
 pub use onward::Onward;
 pub use outcomes::{Outcomes, all_told};
 pub use replies::Possible;
-pub use told_replies::ToldReply;
+pub use reply_orders::ToldReply;
 pub use whole::completes;

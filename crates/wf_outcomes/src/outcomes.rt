@@ -2,7 +2,7 @@
 
 ghost use Rattle.std.specs.Prelude.{map, IfOk};
 ghost use Rattle.wf_outcomes.specs.Explored.{calls_in};
-ghost use Rattle.wf_outcomes.specs.Told.{AreOutcomes, IsItself};
+ghost use Rattle.wf_outcomes.specs.OutcomeOrders.{AreOutcomes, IsItself};
 ghost use Rattle.wf_outcomes.specs.View.{call_in, end_in};
 
 use crate::Explored;

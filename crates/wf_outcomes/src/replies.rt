@@ -3,12 +3,12 @@
 ghost use Rattle.std.specs.Prelude.{◌≡◌, ◌↔◌, ◌<◌, ◌+◌, map, length, get_or, Contains, IfOk, OnOk, IsTrue, MatchOption};
 ghost use Rattle.ob_interface.specs.View.{reply_of};
 ghost use Rattle.wf_outcomes.specs.Explored.{kept_in, calls_in, IsWorded};
-ghost use Rattle.wf_outcomes.specs.Made.{AreMade};
+ghost use Rattle.wf_outcomes.specs.RememberedCalls.{AreMade};
 ghost use Rattle.wf_outcomes.specs.Outcomes.{HasNoReply, IsAdded, IsOnlyReply};
 ghost use Rattle.wf_outcomes.specs.Possible.{had_in, reply_in};
 
 use crate::explored::Explored;
-use crate::made::{Made, reply_to};
+use crate::remembered_calls::{Made, reply_to};
 use crate::seen::Found;
 use crate::step::{Task, next_call};
 use ob_interface::NoMemory;

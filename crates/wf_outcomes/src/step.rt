@@ -4,10 +4,10 @@ ghost use Rattle.std.specs.Prelude.{◌≡◌, ◌<◌, ◌+◌, [], length, get
 ghost use Rattle.std.specs.Option.{option_copied};
 ghost use Rattle.ob_interface.specs.View.{reply_of};
 ghost use Rattle.wf_history.specs.View.{kept_call};
-ghost use Rattle.wf_outcomes.specs.Made.{AreMade};
+ghost use Rattle.wf_outcomes.specs.RememberedCalls.{AreMade};
 ghost use Rattle.wf_outcomes.specs.Explored.{kept_in, calls_in, HasNoStep, IsOnlyStep, IsOnlyStepWith, IsWorded};
 
-use crate::made::{Memory, after};
+use crate::remembered_calls::{Memory, after};
 use crate::seen::{Counts, Found, Stated};
 use ob_interface::NoMemory;
 use ob_interface::call::Reply;

@@ -5,9 +5,9 @@
 //! looked up may change without asking.
 #![tactic(auto)]
 
-mod label;
 pub mod part;
 pub mod parts;
+mod scalar_number;
 mod split;
 
 pub use part::Part;

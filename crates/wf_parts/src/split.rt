@@ -8,8 +8,8 @@ ghost use Rattle.wf_parts.specs.Numbering.{PartView};
 ghost use Rattle.wf_parts.specs.Split.{Begins, Ends, last_id, next_id, with_entry};
 ghost use Rattle.wf_parts.specs.View.{parts_in};
 
-use crate::label::label_of;
 use crate::part::Part;
+use crate::scalar_number::label_of;
 use ob_interface::NoMemory;
 use ob_interface::scalar::Scalar;
 use std::alloc::Global;

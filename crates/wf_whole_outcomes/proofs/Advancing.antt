@@ -5,7 +5,7 @@ use Rattle.std.proofs.lemmas.List.{length-map}
 use Rattle.std.proofs.lemmas.Option.{slice_get-get_or}
 use Rattle.std.specs.List.{slice_get}
 use Rattle.wf_history.proofs.Positions.{contains_at, place_of}
-use Rattle.wf_whole_outcomes.specs.LayersGraph.{Spot, AreApart, GoesOn, IsNarrow, edge_from, next_from, spot_on}
+use Rattle.wf_whole_outcomes.specs.Graph.{Spot, AreApart, GoesOn, IsNarrow, edge_from, next_from, spot_on}
 use Rattle.wf_whole_outcomes.specs.Layers.{IsGrowing, GrowsOver}
 use Rattle.wf_whole_outcomes.specs.Nodes.{AreNodes, IsArrived, IsGrown, IsNode, lists_in, spot_in, spots_in}
 use Rattle.wf_whole_outcomes.specs.declared.edges.Edge.{Edge}

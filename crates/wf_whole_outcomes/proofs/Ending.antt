@@ -4,15 +4,15 @@ use Rattle.std.proofs.lemmas.Option.{get_or_from_slice_get, same_Some, slice_get
 use Rattle.std.specs.List.{slice_get}
 use Rattle.wf_history.proofs.Positions.{one_item}
 use Rattle.wf_history.specs.declared.event.CallId.{CallId}
-use Rattle.wf_whole_outcomes.specs.LayersGraph.{Spot, AreApart, next_from}
+use Rattle.wf_whole_outcomes.specs.Graph.{Spot, AreApart, next_from}
 use Rattle.wf_whole_outcomes.specs.Layers.{HasOver, IsLayer, walk}
 use Rattle.wf_whole_outcomes.specs.Nodes.{first_spot}
 use Rattle.wf_whole_outcomes.specs.declared.edges.Edge.{Edge}
 use Rattle.wf_whole_outcomes.proofs.Listing.{beside, item_at}
 use Rattle.wf_outcomes.specs.Explored.{Kept, IsExplored}
 use Rattle.wf_outcomes.specs.Merges.{total}
-use Rattle.wf_outcomes.specs.Told.{IsItself}
-use Rattle.wf_whole_outcomes.specs.WholeGraph.{AreRows}
+use Rattle.wf_outcomes.specs.OutcomeOrders.{IsItself}
+use Rattle.wf_whole_outcomes.specs.OutcomeGraph.{AreRows}
 use Rattle.wf_whole_outcomes.specs.Leaves.{AreLeaves, IsLeaf, IsTellable, named}
 use Rattle.wf_whole_outcomes.specs.Tellings.{Gives, HasMoreTold, Telling, Tells, silence}
 use Rattle.wf_whole_outcomes.specs.Wholes.{AreWholes, GivesSo, IsBefore, IsThere, WholeTold}

@@ -5,7 +5,7 @@ use Rattle.std.proofs.lemmas.List.Elements.{All-replicate, All-nil, All-cons}
 use Rattle.std.proofs.lemmas.Option.{same_Some, slice_get_within}
 use Rattle.std.specs.List.{slice_get}
 use Rattle.wf_history.proofs.Positions.{place_push}
-use Rattle.wf_whole_outcomes.specs.LayersGraph.{Spot, AreApart, GoesOn, next_from, edge_from, spot_on, said_on}
+use Rattle.wf_whole_outcomes.specs.Graph.{Spot, AreApart, GoesOn, next_from, edge_from, spot_on, said_on}
 use Rattle.wf_whole_outcomes.specs.Layers.{GrowsOver, HasOver, HasSome, IsGrowing, IsLayer, IsLinked, ways_of}
 use Rattle.wf_whole_outcomes.specs.Nodes.{AreNodes, IsFirst, IsFront, IsGrown, IsNode, first_spot, lists_in, spot_in, spots_in, trail_in}
 use Rattle.wf_whole_outcomes.specs.declared.edges.Edge.{Edge}

@@ -5,10 +5,10 @@ use Rattle.std.proofs.lemmas.Bool.{cases_lt}
 use Rattle.std.proofs.lemmas.List.{length-append, get_or_append_left}
 use Rattle.std.specs.List.{slice_get}
 use Rattle.wf_history.proofs.Positions.{place_left, place_push}
-use Rattle.wf_whole_outcomes.specs.LayersGraph.{GoesOn, IsNarrow}
+use Rattle.wf_whole_outcomes.specs.Graph.{GoesOn, IsNarrow}
 use Rattle.wf_whole_outcomes.specs.declared.edges.Edge.{Edge}
 use Rattle.wf_outcomes.specs.Explored.{Kept}
-use Rattle.wf_whole_outcomes.specs.WholeGraph.{AreRows, IsEdge, IsRow, SaysEdge}
+use Rattle.wf_whole_outcomes.specs.OutcomeGraph.{AreRows, IsEdge, IsRow, SaysEdge}
 
 module _ {State Call Reply : Type 0} (Effect : Call → State → State → Reply → Type 0) (scripts : List (List Call)) (found : List (Kept State)) where
   module _ (replies more : List Reply) (on : GoesOn replies more) where

@@ -9,7 +9,7 @@ use Rattle.std.specs.List.{slice_get}
 use Rattle.indexmap.specs.IndexSet.{insert_key}
 use Rattle.smallvec.specs.SmallVec.{SmallVec}
 use Rattle.wf_history.proofs.Positions.{place_push}
-use Rattle.wf_whole_outcomes.specs.LayersGraph.{AreApart, GoesOn}
+use Rattle.wf_whole_outcomes.specs.Graph.{AreApart, GoesOn}
 use Rattle.wf_whole_outcomes.proofs.Arriving.{arrived}
 
 -- one item more, which is new

@@ -10,7 +10,7 @@ use Rattle.std.specs.Cmp.Lexicographic.{pointwise}
 use Rattle.std.specs.List.{slice_get, list_any, Contains}
 use Rattle.indexmap.specs.IndexSet.{insert_key}
 use Rattle.wf_history.proofs.Positions.{contains_at, place_of}
-use Rattle.wf_whole_outcomes.specs.LayersGraph.{Spot, AreApart, GoesOn, said_on, spot_on}
+use Rattle.wf_whole_outcomes.specs.Graph.{Spot, AreApart, GoesOn, said_on, spot_on}
 use Rattle.wf_whole_outcomes.specs.Nodes.{IsNode, AreNodes, spot_in, spots_in}
 use Rattle.wf_whole_outcomes.specs.declared.edges.Edge.{Edge}
 use Rattle.wf_whole_outcomes.specs.declared.nodes.Node.{Node}

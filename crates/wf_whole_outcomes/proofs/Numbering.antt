@@ -4,7 +4,7 @@ use Rattle.std.proofs.lemmas.List.Elements.{All-cons, All-nil}
 use Rattle.std.proofs.lemmas.Option.{slice_get_within}
 use Rattle.std.specs.List.{slice_get, Contains}
 use Rattle.wf_history.proofs.Positions.{contains_at, place_here}
-use Rattle.wf_whole_outcomes.specs.LayersGraph.{AreApart, GoesOn}
+use Rattle.wf_whole_outcomes.specs.Graph.{AreApart, GoesOn}
 use Rattle.wf_whole_outcomes.proofs.Interning.{apart_push}
 
 pub map_set : {A B : Type 0} (f : A → B) (xs : List A) (i : ℕ) (x : A) → map f (set xs i x) ≡ set (map f xs) i (f x)

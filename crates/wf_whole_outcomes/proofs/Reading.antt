@@ -7,7 +7,7 @@ use Rattle.std.proofs.lemmas.List.Elements.{All-cons, All-contains, All-nil}
 use Rattle.std.specs.List.{slice_get}
 use Rattle.wf_history.proofs.Positions.{contains_at, place_push}
 use Rattle.wf_history.specs.declared.event.CallId.{CallId}
-use Rattle.wf_whole_outcomes.specs.LayersGraph.{Spot, IsNarrow, next_from}
+use Rattle.wf_whole_outcomes.specs.Graph.{Spot, IsNarrow, next_from}
 use Rattle.wf_whole_outcomes.specs.Layers.{walk, ways_of}
 use Rattle.wf_whole_outcomes.specs.Nodes.{AreNodes, IsFront, IsNode, first_spot, lists_in, spot_in, spots_in, trail_in}
 use Rattle.wf_whole_outcomes.specs.declared.nodes.Node.{Node}

@@ -5,7 +5,7 @@ use Rattle.std.proofs.lemmas.Option.{same_Some, slice_get_within, MatchOption-at
 use Rattle.std.specs.List.{slice_get}
 use Rattle.wf_history.proofs.Positions.{one_item, same_call}
 use Rattle.wf_history.specs.declared.event.CallId.{CallId}
-use Rattle.wf_whole_outcomes.specs.LayersGraph.{Spot, AreApart, edge_from, next_from, spot_on}
+use Rattle.wf_whole_outcomes.specs.Graph.{Spot, AreApart, edge_from, next_from, spot_on}
 use Rattle.wf_whole_outcomes.specs.Layers.{walk}
 use Rattle.wf_whole_outcomes.specs.Nodes.{first_spot}
 use Rattle.wf_whole_outcomes.specs.declared.edges.Edge.{Edge}
@@ -14,7 +14,7 @@ use Rattle.wf_outcomes.specs.Explored.{Kept, IsExplored}
 use Rattle.wf_outcomes.specs.Merges.{Configuration, IsStep}
 use Rattle.wf_outcomes.specs.Outcomes.{IsAtEnd}
 use Rattle.wf_outcomes.proofs.OutcomesLists.{same_configuration}
-use Rattle.wf_whole_outcomes.specs.WholeGraph.{AreRows, IsEdge, SaysEdge}
+use Rattle.wf_whole_outcomes.specs.OutcomeGraph.{AreRows, IsEdge, SaysEdge}
 use Rattle.wf_whole_outcomes.specs.Leaves.{named}
 use Rattle.wf_whole_outcomes.specs.Tellings.{Telling, IsTold, Tells, none, more, replies_to, silence}
 use Rattle.wf_whole_outcomes.proofs.Numbering.{length_row, map_all, map_push, map_row, map_set, rows_same}

@@ -1,7 +1,7 @@
 -- What is told of the nodes of the last layer.
 use Rattle.std.specs.Prelude.{◌≡◌, ℕ, ◌+◌, ◌<◌, List, [], ◌∷◌, length, map, get_or, replicate, slice_get, slice_set, Some, All}
 use Rattle.wf_history.specs.declared.event.CallId.{CallId}
-use Rattle.wf_whole_outcomes.specs.LayersGraph.{Spot}
+use Rattle.wf_whole_outcomes.specs.Graph.{Spot}
 use Rattle.wf_outcomes.specs.Explored.{Kept}
 use Rattle.wf_whole_outcomes.specs.Wholes.{WholeTold}
 

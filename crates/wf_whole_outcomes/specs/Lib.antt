@@ -1,8 +1,8 @@
 pub mod Layers
-pub mod LayersGraph
+pub mod Graph
 pub mod Leaves
 pub mod Nodes
 pub mod Tellings
 pub mod View
-pub mod WholeGraph
+pub mod OutcomeGraph
 pub mod Wholes

@@ -2,7 +2,7 @@
 use Rattle.std.specs.Prelude.{◌≡◌, ◌⊎◌, ℕ, ◌+◌, ◌<◌, List, [], ◌∷◌, ◌++◌, length, map, get_or, replicate, Vec, All, Option, Contains}
 use Rattle.std.specs.HashSet.{HashSet}
 use Rattle.smallvec.specs.SmallVec.{SmallVec}
-use Rattle.wf_whole_outcomes.specs.LayersGraph.{Spot, AreApart, next_from}
+use Rattle.wf_whole_outcomes.specs.Graph.{Spot, AreApart, next_from}
 use Rattle.wf_whole_outcomes.specs.Layers.{HasSome, IsGrowing, IsLayer, IsLinked, ways_of}
 use Rattle.wf_whole_outcomes.specs.declared.edges.Edge.{Edge}
 use Rattle.wf_whole_outcomes.specs.declared.growing.Came.{Came}

@@ -1,7 +1,7 @@
 //! The edges of a graph.
 
 ghost use Rattle.std.specs.Prelude.{◌≡◌};
-ghost use Rattle.wf_whole_outcomes.specs.LayersGraph.{edge_from, rows_in};
+ghost use Rattle.wf_whole_outcomes.specs.Graph.{edge_from, rows_in};
 
 /// To which place a call leads, and the number of its reply.
 #[derive(Clone, Copy)]

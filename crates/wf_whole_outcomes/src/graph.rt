@@ -4,8 +4,8 @@ ghost use Rattle.std.specs.Prelude.{◌≡◌, ◌<◌, ◌+◌, map, length, sl
 ghost use Rattle.ob_interface.specs.View.{reply_of};
 ghost use Rattle.wf_history.specs.View.{kept_reply};
 ghost use Rattle.wf_outcomes.specs.Explored.{all_kept, calls_in};
-ghost use Rattle.wf_whole_outcomes.specs.LayersGraph.{AreApart, GoesOn, IsNarrow, rows_in};
-ghost use Rattle.wf_whole_outcomes.specs.WholeGraph.{AreRows, IsRow, SaysEdge};
+ghost use Rattle.wf_whole_outcomes.specs.Graph.{AreApart, GoesOn, IsNarrow, rows_in};
+ghost use Rattle.wf_whole_outcomes.specs.OutcomeGraph.{AreRows, IsRow, SaysEdge};
 
 use crate::Edge;
 use ob_interface::NoMemory;

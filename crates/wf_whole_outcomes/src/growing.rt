@@ -1,7 +1,7 @@
 //! One layer more.
 
 ghost use Rattle.std.specs.Prelude.{◌≡◌, ◌<◌, ◌+◌, ◌≤◌, length, OnOk, IfOk, IsErrOf};
-ghost use Rattle.wf_whole_outcomes.specs.LayersGraph.{AreApart, GoesOn, IsNarrow, next_from, rows_in};
+ghost use Rattle.wf_whole_outcomes.specs.Graph.{AreApart, GoesOn, IsNarrow, next_from, rows_in};
 ghost use Rattle.wf_whole_outcomes.specs.Layers.{GrowsOver};
 ghost use Rattle.wf_whole_outcomes.specs.Nodes.{AreNodes, IsArrived, IsGrown, IsNode, lists_in, spot_in, spots_in};
 

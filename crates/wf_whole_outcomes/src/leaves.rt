@@ -2,7 +2,7 @@
 
 ghost use Rattle.std.specs.Prelude.{◌≡◌, ◌<◌, ◌∷◌, [], map, length, get_or, replicate, slice_get, Some, All, IfOk};
 ghost use Rattle.wf_history.specs.View.{kept_reply};
-ghost use Rattle.wf_whole_outcomes.specs.LayersGraph.{IsNarrow, rows_in};
+ghost use Rattle.wf_whole_outcomes.specs.Graph.{IsNarrow, rows_in};
 ghost use Rattle.wf_whole_outcomes.specs.Layers.{ways_of};
 ghost use Rattle.wf_whole_outcomes.specs.Nodes.{IsFront, lists_in, spots_in, trail_in};
 ghost use Rattle.wf_outcomes.specs.Explored.{all_kept};

@@ -1,7 +1,7 @@
 //! What a search keeps of where a way leads.
 
 ghost use Rattle.std.specs.Prelude.{◌≡◌, ◌<◌, ◌++◌, ◌∷◌, [], length, get_or, slice_get, slice_set, Some, IfOk, OnOk};
-ghost use Rattle.wf_whole_outcomes.specs.LayersGraph.{AreApart, GoesOn, spot_on};
+ghost use Rattle.wf_whole_outcomes.specs.Graph.{AreApart, GoesOn, spot_on};
 ghost use Rattle.wf_whole_outcomes.specs.Nodes.{IsNode, lists_in, spot_in};
 
 use crate::edges::Edge;

@@ -1,7 +1,7 @@
 //! The search, layer by layer.
 
 ghost use Rattle.std.specs.Prelude.{◌≡◌, ◌+◌, ◌≤◌, ◌∷◌, ◌++◌, [], length, IfOk, IsErrOf};
-ghost use Rattle.wf_whole_outcomes.specs.LayersGraph.{IsNarrow, next_from, rows_in};
+ghost use Rattle.wf_whole_outcomes.specs.Graph.{IsNarrow, next_from, rows_in};
 ghost use Rattle.wf_whole_outcomes.specs.Layers.{HasOver};
 ghost use Rattle.wf_whole_outcomes.specs.Nodes.{IsFirst, IsFront, first_spot, lists_in, trail_in};
 

@@ -1,12 +1,12 @@
 //! Whole outcomes.
 
 ghost use Rattle.std.specs.Prelude.{◌≡◌, map, length, IfOk, IsErrOf};
-ghost use Rattle.wf_whole_outcomes.specs.LayersGraph.{IsNarrow, next_from, rows_in};
+ghost use Rattle.wf_whole_outcomes.specs.Graph.{IsNarrow, next_from, rows_in};
 ghost use Rattle.wf_whole_outcomes.specs.Layers.{HasOver};
 ghost use Rattle.wf_whole_outcomes.specs.Nodes.{IsFront, first_spot};
 ghost use Rattle.wf_outcomes.specs.Explored.{calls_in};
 ghost use Rattle.wf_outcomes.specs.Merges.{total};
-ghost use Rattle.wf_outcomes.specs.Told.{IsItself};
+ghost use Rattle.wf_outcomes.specs.OutcomeOrders.{IsItself};
 ghost use Rattle.wf_whole_outcomes.specs.Tellings.{HasMoreTold};
 ghost use Rattle.wf_whole_outcomes.specs.View.{whole_in};
 ghost use Rattle.wf_whole_outcomes.specs.Wholes.{AreWholes};

@@ -2,8 +2,8 @@ use Rattle.std.proofs.Common.{IfOk, Option, refl, subst}
 use Rattle.std.proofs.lemmas.Result.{IfOk-weaker}
 use Rattle.ob_answer.specs.AllRuns.{AllRuns}
 use Rattle.ob_answer.specs.Answers.{IsAllRunsObeyed, IsCallsObeyed, IsRunObeyed}
-use Rattle.ob_answer.specs.declared.product.CallsProduct.{CallsProduct}
-use Rattle.ob_answer.specs.declared.product.Product.TheVariants as Products
+use Rattle.ob_answer.specs.declared.printed_forms.CallsProduct.{CallsProduct}
+use Rattle.ob_answer.specs.declared.printed_forms.Product.TheVariants as Products
 use Rattle.ob_command.specs.Commands.{outcomes_request_of, run_request_of, seq_request_of}
 use Rattle.ob_picture_chart.specs.declared.charts.CallRange.{CallRange}
 use Rattle.ob_answer.proofs.answer.obey.Goals as goal

@@ -1,5 +1,5 @@
 use Rattle.std.proofs.Common.{take}
-use Rattle.ob_desk_serve.specs.ServeGathered.{NoneEnded}
+use Rattle.ob_desk_serve.specs.NotAllEnded.{NoneEnded}
 use Rattle.ob_desk_serve.proofs.ending.first.Given as goal
 
 abbrev pub invariant-loop-process : goal.invariant-loop-process

@@ -1,5 +1,5 @@
 use Rattle.std.proofs.Common.{◌≡◌, map}
-use Rattle.ob_desk_serve.specs.ServeGathered.{started}
+use Rattle.ob_desk_serve.specs.NotAllEnded.{started}
 use Rattle.ob_desk_serve.proofs.ending.split.Given as goal
 
 abbrev pub invariant-loop-worker : goal.invariant-loop-worker

@@ -4,7 +4,7 @@ use Rattle.ob_object_compile.specs.View.{object_in}
 use Rattle.ob_desk_floor.specs.Seat.{Seat}
 use Rattle.ob_desk_serve.specs.WorkersGathered.{HaveWorked}
 use Rattle.ob_desk_serve.proofs.Ends.{answers_are_told, as_many_lists, back_are_served, finish_fault, gather_fault, have_all_served, turns_are_let}
-use Rattle.ob_desk_serve.specs.ServeGathered.{hidden, started}
+use Rattle.ob_desk_serve.specs.NotAllEnded.{hidden, started}
 use Rattle.ob_text_words.specs.ScriptCalls.{script_call_of}
 use Rattle.ob_desk_serve.proofs.serving.serve.Goals as goal
 

@@ -2,7 +2,7 @@ use Rattle.std.proofs.Common.{◌≡◌, ◌∙◌, ◌<◌, ◌+◌, ◌++◌, 
 use Rattle.std.proofs.lemmas.List.{length-map, map-append, get_or-map}
 use Rattle.ob_checked.specs.CheckedModule.{program_in}
 use Rattle.ob_mean.specs.View.{call_of}
-use Rattle.ob_object_calls.specs.ToldLines.{all_changes_at, changes_at, lines_at, lines_changed}
+use Rattle.ob_object_calls.specs.DetailLines.{all_changes_at, changes_at, lines_at, lines_changed}
 use Rattle.ob_meaning.specs.ByPositionObject.{effect}
 use Rattle.ob_store.specs.View.{state_of}
 use Rattle.ob_object_calls.proofs.ChangesInTurn.{changes_last, changes_next}

@@ -2,7 +2,7 @@
 use Rattle.std.proofs.Common.{◌≡◌, ◌++◌, map, drop, string_bytes}
 use Rattle.ob_checked.specs.CheckedModule.{program_in}
 use Rattle.ob_mean.specs.View.{call_of}
-use Rattle.ob_object_calls.specs.ToldLines.{all_changes_at, lines_at}
+use Rattle.ob_object_calls.specs.DetailLines.{all_changes_at, lines_at}
 use Rattle.ob_store.specs.View.{state_of}
 use Rattle.ob_object_calls.proofs.changes.changes_in_turn.Given as goal
 

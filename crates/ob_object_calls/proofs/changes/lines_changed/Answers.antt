@@ -4,7 +4,7 @@ use Rattle.std.proofs.lemmas.Slice.Zip.{zip_turn, zip_end}
 use Rattle.std.proofs.Math.ListN.{get_or-map}
 use Rattle.std.specs.Iterator.Adapters.{zip_first, zip_second}
 use Rattle.std.specs.Slice.Iter.{iter_rest}
-use Rattle.ob_object_calls.specs.ToldLines.{line_changed}
+use Rattle.ob_object_calls.specs.DetailLines.{line_changed}
 use Rattle.ob_object_calls.proofs.Both.{both_all, both_more}
 use Rattle.ob_object_calls.proofs.changes.lines_changed.Goals as goal
 

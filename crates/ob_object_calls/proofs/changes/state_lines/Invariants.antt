@@ -1,7 +1,7 @@
 -- The lines so far, and those of the variables that are left, are those of all.
 use Rattle.std.proofs.Common.{◌≡◌, ◌++◌, drop, length, map, string_bytes}
 use Rattle.ob_checked.specs.View.{program_of}
-use Rattle.ob_object_calls.specs.ToldLines.{lines_at}
+use Rattle.ob_object_calls.specs.DetailLines.{lines_at}
 use Rattle.ob_store.specs.View.{state_of}
 use Rattle.ob_object_calls.proofs.changes.state_lines.Given as goal
 

@@ -8,7 +8,7 @@ use Rattle.ob_object_calls.proofs.VerifyFitting.{calls_fit}
 use Rattle.ob_object_calls.proofs.Records.{accepted_here, legal_here, no_fault, no_opening, no_record, one_form, one_opening, one_order, order_fails}
 use Rattle.ob_object_calls.proofs.Typed.{beginning_typed}
 use Rattle.ob_object_calls.proofs.verifying.verify_record.Goals as goal
-use Rattle.ob_object_calls.specs.declared.verify_coded.ByCode.{ByCode}
+use Rattle.ob_object_calls.specs.declared.coded_verifying.ByCode.{ByCode}
 use Rattle.ob_meaning.specs.ByPositionStore.{Activation}
 use Rattle.ob_store.specs.View.{state_of}
 

@@ -3,7 +3,7 @@ use Rattle.std.proofs.Common.{◌≡◌, ◌∙◌, Err, Option, Result, ap, sub
 use Rattle.ob_object_draw.proofs.Refused.{refused}
 use Rattle.ob_object_draw.specs.Marks.{of_verify}
 use Rattle.ob_object_draw.specs.RecordPictures.{IsRefusal}
-use Rattle.ob_object_draw.specs.declared.drawing.DrawRecordFault.{DrawRecordFault}
+use Rattle.ob_object_draw.specs.declared.record_pictures.DrawRecordFault.{DrawRecordFault}
 use Rattle.ob_object_draw.specs.declared.marking.Marked.{Marked}
 use Rattle.ob_object_calls.specs.VerifyFaults.{IsVerifyFault, too_long}
 use Rattle.ob_object_calls.specs.declared.verifying.VerifyFault.{VerifyFault}

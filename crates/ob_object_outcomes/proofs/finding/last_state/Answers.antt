@@ -2,7 +2,7 @@
 use Rattle.std.proofs.Common.{◌∙◌, ap, List}
 use Rattle.ob_meaning.specs.ByPositionStore.{Activation}
 use Rattle.wf_history.specs.declared.event.CallId.{CallId}
-use Rattle.wf_outcomes.specs.Told.{End}
+use Rattle.wf_outcomes.specs.OutcomeOrders.{End}
 use Rattle.ob_object_outcomes.proofs.finding.last_state.Goals as goal
 
 abbrev end_of : Activation → List CallId → End Activation

@@ -7,7 +7,7 @@ use Rattle.ob_object_search.specs.Kept.{kept_in}
 use Rattle.ob_object_search.specs.declared.kept.KeptState.{KeptState}
 use Rattle.ob_store.specs.View.{state_of}
 use Rattle.wf_outcomes.specs.Explored.{calls_in}
-use Rattle.wf_outcomes.specs.Told.{AreOutcomes, End, IsItself}
+use Rattle.wf_outcomes.specs.OutcomeOrders.{AreOutcomes, End, IsItself}
 use Rattle.wf_outcomes.specs.View.{call_in, end_in}
 use Rattle.wf_outcomes.specs.declared.ends.ToldEnd.{ToldEnd}
 use Rattle.ob_object_outcomes.proofs.finding.outcomes_found.Goals as goal

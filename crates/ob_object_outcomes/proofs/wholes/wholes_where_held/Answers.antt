@@ -8,7 +8,7 @@ use Rattle.ob_object_outcomes.proofs.WholesAsked.{failing_is, telling_is}
 use Rattle.ob_meaning.specs.ByPositionStore.{Activation}
 use Rattle.ob_store.specs.View.{state_of}
 use Rattle.wf_outcomes.specs.Explored.{calls_in}
-use Rattle.wf_outcomes.specs.Told.{IsItself}
+use Rattle.wf_outcomes.specs.OutcomeOrders.{IsItself}
 use Rattle.wf_whole_outcomes.specs.Wholes.{AreWholes, WholeTold}
 use Rattle.ob_object_outcomes.proofs.wholes.wholes_where_held.Goals as goal
 

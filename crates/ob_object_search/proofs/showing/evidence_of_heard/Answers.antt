@@ -10,7 +10,7 @@ use Rattle.ob_object_search.specs.Found.{IsFaultHere}
 use Rattle.ob_object_search.proofs.Ended.{ends_with}
 use Rattle.ob_object_search.proofs.Fronts.{below_front, fault_front}
 use Rattle.ob_object_search.proofs.Shown.{evident, no_end, possible_found}
-use Rattle.ob_object_search.specs.Evidence.{EndsNowhere}
+use Rattle.ob_object_search.specs.EndEvidence.{EndsNowhere}
 use Rattle.ob_object_search.proofs.Recorded.{fault_heard, fault_there, legal_found, needed_there}
 use Rattle.ob_store.specs.View.{state_of}
 use Rattle.ob_text_reading.specs.Names.{AreBelow, named_all, named_id}

@@ -1,7 +1,7 @@
 use Rattle.std.proofs.Common.{◌∙◌, ap, length, map, arith}
 use Rattle.ob_carry.specs.View.{entry_of}
 use Rattle.ob_text_values_reading.proofs.Indexing.{indexed_none}
-use Rattle.ob_text_values_reading.proofs.ToldLines.{none_read, number_within, one_line_more}
+use Rattle.ob_text_values_reading.proofs.VariableLines.{none_read, number_within, one_line_more}
 use Rattle.ob_text_values_reading.specs.RecordTexts.{lines_behind}
 use Rattle.ob_text_values_reading.proofs.reading.read_behind.Goals as goal
 

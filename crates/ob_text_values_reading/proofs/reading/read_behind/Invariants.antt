@@ -1,7 +1,7 @@
 -- What the lines so far tell.
 use Rattle.std.proofs.Common.{length, map}
 use Rattle.ob_carry.specs.View.{entry_of}
-use Rattle.ob_text_values_reading.proofs.ToldLines.{ReadTo}
+use Rattle.ob_text_values_reading.proofs.VariableLines.{ReadTo}
 use Rattle.ob_text_values_reading.specs.Indexed.{IsIndexed}
 use Rattle.ob_text_values_reading.specs.RecordTexts.{lines_behind}
 use Rattle.ob_text_values_reading.proofs.reading.read_behind.Given as goal

@@ -1,5 +1,5 @@
 use Rattle.std.proofs.Common.{sym}
-use Rattle.ob_text_values_reading.proofs.ToldLines.{nothing_told}
+use Rattle.ob_text_values_reading.proofs.VariableLines.{nothing_told}
 use Rattle.ob_text_values_reading.proofs.reading.read_kept.Goals as goal
 
 pub returns-in_default-clause-fault : goal.returns-in_default-clause-fault

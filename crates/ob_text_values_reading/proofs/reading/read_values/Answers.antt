@@ -1,5 +1,5 @@
 use Rattle.std.proofs.Common.{◌∙◌, ap, map}
-use Rattle.ob_text_values_reading.proofs.ToldLines.{are_distinct, counted_from_one, one_list, text_fault}
+use Rattle.ob_text_values_reading.proofs.VariableLines.{are_distinct, counted_from_one, one_list, text_fault}
 use Rattle.ob_text_values_reading.specs.Comments.{line_number}
 use Rattle.ob_text_words.specs.Words.{lines, words}
 use Rattle.ob_text_values_reading.proofs.reading.read_values.Goals as goal

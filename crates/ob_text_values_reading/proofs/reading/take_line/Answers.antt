@@ -6,10 +6,10 @@ use Rattle.ob_carry.specs.Carried.{Entry}
 use Rattle.ob_carry.specs.View.{entry_of}
 use Rattle.ob_text_words.specs.Words.{words}
 use Rattle.ob_text_values_reading.proofs.Indexing.{indexed_more, new_name, old_name}
-use Rattle.ob_text_values_reading.proofs.ToldLines.{no_next, told_twice}
+use Rattle.ob_text_values_reading.proofs.VariableLines.{no_next, told_twice}
 use Rattle.ob_text_values_reading.specs.Indexed.{IsIndexed}
-use Rattle.ob_text_values_reading.specs.ToldValues as Told
-use Rattle.ob_text_values_reading.specs.ToldValues.{LeadsOn}
+use Rattle.ob_text_values_reading.specs.ReadValues as Told
+use Rattle.ob_text_values_reading.specs.ReadValues.{LeadsOn}
 use Rattle.ob_text_values_reading.proofs.reading.take_line.Goals as goal
 
 pub returns-then-not-begins_with-clause-told : goal.returns-then-not-begins_with-clause-told

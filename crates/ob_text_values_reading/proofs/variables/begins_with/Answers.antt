@@ -1,7 +1,7 @@
 use Rattle.std.proofs.Common.{◌≡◌, ◌∙◌, Some, ap, sym}
 use Rattle.std.specs.Option.{option_copied}
 use Rattle.std.specs.List.{slice_get}
-use Rattle.ob_text_values_reading.proofs.ToldLines.{begins_at}
+use Rattle.ob_text_values_reading.proofs.VariableLines.{begins_at}
 use Rattle.ob_text_values_reading.proofs.variables.begins_with.Goals as goal
 
 pub returns-in-Some-first : goal.returns-in-Some-first

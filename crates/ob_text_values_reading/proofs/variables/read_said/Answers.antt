@@ -1,4 +1,4 @@
-use Rattle.ob_text_values_reading.proofs.ToldLines.{said_here}
+use Rattle.ob_text_values_reading.proofs.VariableLines.{said_here}
 use Rattle.ob_text_values_reading.proofs.variables.read_said.Goals as goal
 
 pub returns : goal.returns

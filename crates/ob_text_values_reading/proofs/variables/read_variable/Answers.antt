@@ -1,6 +1,6 @@
 use Rattle.std.proofs.Common.{◌∙◌, ◌∷◌, ap}
 use Rattle.ob_text_words.specs.Words.{words}
-use Rattle.ob_text_values_reading.proofs.ToldLines.{one_byte, variable_result}
+use Rattle.ob_text_values_reading.proofs.VariableLines.{one_byte, variable_result}
 use Rattle.ob_text_values_reading.proofs.variables.read_variable.Goals as goal
 
 pub returns : goal.returns

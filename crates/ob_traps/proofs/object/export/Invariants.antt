@@ -1,7 +1,7 @@
 use Rattle.std.proofs.Common.{◌≡◌, ◌+◌, drop, map}
 use Rattle.std.specs.Prelude.{filter, slice_get}
 use Rattle.ob_checked.specs.View.{procedure_of, table_of}
-use Rattle.ob_traps.specs.Object.{export_number}
+use Rattle.ob_traps.specs.TrapOfCall.{export_number}
 use Rattle.ob_typing.specs.Program.{Procedure}
 use Rattle.ob_traps.proofs.object.export.Given as goal
 

@@ -3,7 +3,7 @@ use Rattle.std.proofs.lemmas.Result.{IfOk-weaker}
 use Rattle.ob_checked.specs.CheckedModule.{program_in}
 use Rattle.ob_mean.specs.View.{call_of, reply_of}
 use Rattle.ob_meaning.specs.ByPositionObject.{Effect}
-use Rattle.ob_traps.specs.Object as Sites
+use Rattle.ob_traps.specs.TrapOfCall as Sites
 use Rattle.ob_traps.proofs.Sited.{answers_unsited, trap_keeps}
 use Rattle.ob_traps.proofs.sequence.site_behind.Goals as goal
 

@@ -3,7 +3,7 @@ use Rattle.ob_checked.specs.View.{expression_of}
 use Rattle.ob_checked.proofs.Rows.{expression_of-value}
 use Rattle.ob_meaning.specs.ByPositionEvaluation.{by_position}
 use Rattle.ob_store.specs.View.{store_in}
-use Rattle.ob_traps.specs.OverStore as Sited
+use Rattle.ob_traps.specs.SitesOverStore as Sited
 use Rattle.ob_traps.specs.Reaching.{Reaches}
 use Rattle.ob_traps.proofs.Chains.{chain_begins}
 use Rattle.ob_traps.proofs.values.+values.Goals as goal

@@ -4,7 +4,7 @@ use Rattle.ob_meaning.specs.ByPositionEvaluation.{by_position}
 use Rattle.ob_meaning.specs.ByPositionStore.{further_in}
 use Rattle.ob_store.specs.View.{store_in, place_in}
 use Rattle.ob_traps.specs.Site.{Yields, ◌>>=◌}
-use Rattle.ob_traps.specs.OverStore as Sited
+use Rattle.ob_traps.specs.SitesOverStore as Sited
 use Rattle.ob_traps.proofs.values.+values.Given as goal
 
 -- what the operators that are left make of the value so far is the value of all

@@ -4,8 +4,8 @@ use Rattle.std.proofs.lemmas.List.{length-map}
 use Rattle.wf_history.specs.View.{kept_call}
 use Rattle.wf_history.specs.declared.event.CallId.{CallId}
 use Rattle.wf_outcomes.specs.Explored.{calls_in}
-use Rattle.wf_outcomes.proofs.ToldLists.{one_more_script}
-use Rattle.wf_outcomes.specs.Told.{calls_of}
+use Rattle.wf_outcomes.proofs.OrderLists.{one_more_script}
+use Rattle.wf_outcomes.specs.OutcomeOrders.{calls_of}
 use Rattle.wf_outcomes.proofs.calls.calls_told.Goals as goal
 
 pub loop-process-preserved : goal.loop-process-preserved

@@ -1,6 +1,6 @@
 use Rattle.std.proofs.Common.{◌≡◌, map, take}
 use Rattle.wf_outcomes.specs.Explored.{calls_in}
-use Rattle.wf_outcomes.specs.Told.{AreCallsTold, calls_from, id_told}
+use Rattle.wf_outcomes.specs.OutcomeOrders.{AreCallsTold, calls_from, id_told}
 use Rattle.wf_outcomes.specs.View.{call_in}
 use Rattle.wf_outcomes.proofs.calls.calls_told.Given as goal
 

@@ -8,8 +8,8 @@ use Rattle.wf_history.specs.declared.kept.KeptCall.{KeptCall}
 use Rattle.wf_outcomes.proofs.OutcomesLists.{item_here}
 use Rattle.wf_outcomes.specs.Explored.{calls_in}
 use Rattle.wf_outcomes.proofs.Calling.{one_told}
-use Rattle.wf_outcomes.proofs.ToldLists.{one_more_call}
-use Rattle.wf_outcomes.specs.Told.{calls_of, id_told}
+use Rattle.wf_outcomes.proofs.OrderLists.{one_more_call}
+use Rattle.wf_outcomes.specs.OutcomeOrders.{calls_of, id_told}
 use Rattle.wf_outcomes.specs.View.{call_in}
 use Rattle.wf_outcomes.specs.declared.calls.ToldCall.{ToldCall}
 use Rattle.wf_outcomes.proofs.calls.tell_script.Goals as goal

@@ -1,6 +1,6 @@
 use Rattle.std.proofs.Common.{◌≡◌, ◌++◌, [], get_or, map, take}
 use Rattle.wf_outcomes.specs.Explored.{calls_in}
-use Rattle.wf_outcomes.specs.Told.{AreCallsTold, calls_of, id_told}
+use Rattle.wf_outcomes.specs.OutcomeOrders.{AreCallsTold, calls_of, id_told}
 use Rattle.wf_outcomes.specs.View.{call_in}
 use Rattle.wf_outcomes.proofs.calls.tell_script.Given as goal
 

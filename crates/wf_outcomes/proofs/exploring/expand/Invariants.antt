@@ -2,7 +2,7 @@
 use Rattle.std.proofs.Common.{◌≤◌}
 use Rattle.indexmap.specs.IndexSet.{index_set_len}
 use Rattle.wf_outcomes.specs.Explored.{all_kept, calls_in, AreWorded, IsExploring}
-use Rattle.wf_outcomes.specs.Made.{AreMade}
+use Rattle.wf_outcomes.specs.RememberedCalls.{AreMade}
 use Rattle.wf_outcomes.proofs.exploring.expand.Given as goal
 
 abbrev pub invariant-loop-process : goal.invariant-loop-process

@@ -3,7 +3,7 @@ use Rattle.std.proofs.Common.{ap, ◌∙◌, sym, subst, ℕ, map, replicate}
 use Rattle.std.proofs.lemmas.List.{length-map}
 use Rattle.wf_history.specs.View.{kept_call}
 use Rattle.wf_outcomes.specs.declared.seen.Stated.{Stated}
-use Rattle.wf_outcomes.specs.Made.{IsStated}
+use Rattle.wf_outcomes.specs.RememberedCalls.{IsStated}
 use Rattle.wf_outcomes.proofs.OutcomesLists.{same_configuration}
 use Rattle.wf_outcomes.proofs.exploring.start_of.Goals as goal
 

@@ -4,7 +4,7 @@ use Rattle.std.proofs.Math.Logic.{∥∥₁_map}
 use Rattle.ob_interface.specs.View.{reply_of}
 use Rattle.wf_history.specs.View.{kept_call}
 use Rattle.wf_outcomes.specs.Explored.{kept_in, calls_in}
-use Rattle.wf_outcomes.specs.Made.{IsStated}
+use Rattle.wf_outcomes.specs.RememberedCalls.{IsStated}
 use Rattle.wf_outcomes.specs.Outcomes.{Answers}
 use Rattle.wf_outcomes.specs.declared.seen.Stated.{Stated}
 use Rattle.wf_outcomes.proofs.Stepping.{next_is, only_reply}

@@ -4,7 +4,7 @@ use Rattle.ob_interface.specs.View.{reply_of}
 use Rattle.wf_history.specs.View.{kept_call}
 use Rattle.wf_outcomes.specs.declared.seen.Stated.{Stated}
 use Rattle.wf_outcomes.specs.Explored.{kept_in, calls_in}
-use Rattle.wf_outcomes.specs.Made.{IsStated}
+use Rattle.wf_outcomes.specs.RememberedCalls.{IsStated}
 use Rattle.wf_outcomes.proofs.Stepping.{next_is, only_step_with}
 use Rattle.wf_outcomes.proofs.step.stepped.Goals as goal
 

@@ -3,11 +3,11 @@ use Rattle.std.proofs.Common.{◌∙◌, ◌∷◌, [], ap, length, map, subst, 
 use Rattle.std.proofs.Math.Logic.{∥∥₁_elim, ∥∥₁_map, ∥∥₁_prop}
 use Rattle.std.proofs.lemmas.List.{length-map, map-append}
 use Rattle.wf_history.specs.View.{kept_call, kept_reply}
-use Rattle.wf_whole_outcomes.specs.LayersGraph.{rows_in}
+use Rattle.wf_whole_outcomes.specs.Graph.{rows_in}
 use Rattle.wf_whole_outcomes.specs.declared.edges.Edge.{Edge}
 use Rattle.wf_outcomes.specs.Explored.{all_kept, calls_in}
 use Rattle.wf_whole_outcomes.proofs.Graphing.{narrow_push, rows_push}
-use Rattle.wf_whole_outcomes.specs.WholeGraph.{IsRow}
+use Rattle.wf_whole_outcomes.specs.OutcomeGraph.{IsRow}
 use Rattle.wf_whole_outcomes.proofs.graph.graph_of.Goals as goal
 
 pub loop-place-preserved : goal.loop-place-preserved

@@ -1,9 +1,9 @@
 -- The rows of the places so far.
 use Rattle.std.proofs.Common.{length, map}
 use Rattle.wf_history.specs.View.{kept_reply}
-use Rattle.wf_whole_outcomes.specs.LayersGraph.{AreApart, IsNarrow, rows_in}
+use Rattle.wf_whole_outcomes.specs.Graph.{AreApart, IsNarrow, rows_in}
 use Rattle.wf_outcomes.specs.Explored.{all_kept, calls_in}
-use Rattle.wf_whole_outcomes.specs.WholeGraph.{AreRows}
+use Rattle.wf_whole_outcomes.specs.OutcomeGraph.{AreRows}
 use Rattle.wf_whole_outcomes.proofs.graph.graph_of.Given as goal
 
 abbrev pub invariant-loop-place : goal.invariant-loop-place

@@ -1,9 +1,9 @@
 -- The edges of the processes so far.
 use Rattle.std.proofs.Common.{◌≡◌, length, map}
 use Rattle.wf_history.specs.View.{kept_reply}
-use Rattle.wf_whole_outcomes.specs.LayersGraph.{AreApart, GoesOn}
+use Rattle.wf_whole_outcomes.specs.Graph.{AreApart, GoesOn}
 use Rattle.wf_outcomes.specs.Explored.{all_kept, calls_in}
-use Rattle.wf_whole_outcomes.specs.WholeGraph.{IsRow}
+use Rattle.wf_whole_outcomes.specs.OutcomeGraph.{IsRow}
 use Rattle.wf_whole_outcomes.proofs.graph.row_of.Given as goal
 
 abbrev pub invariant-loop-process : goal.invariant-loop-process

@@ -3,7 +3,7 @@ use Rattle.std.proofs.Common.{◌≡◌, ◌∙◌, refl, sym, ap, subst, ℕ, L
 use Rattle.std.specs.List.{slice_get}
 use Rattle.std.proofs.lemmas.List.Elements.{All-contains}
 use Rattle.wf_history.proofs.Positions.{contains_at}
-use Rattle.wf_whole_outcomes.specs.LayersGraph.{GoesOn, rows_in}
+use Rattle.wf_whole_outcomes.specs.Graph.{GoesOn, rows_in}
 use Rattle.wf_whole_outcomes.specs.Nodes.{AreNodes, IsNode, lists_in}
 use Rattle.wf_whole_outcomes.specs.declared.nodes.Node.{Node}
 use Rattle.wf_whole_outcomes.proofs.Advancing.{goes_nowhere, none_tried, one_tried}

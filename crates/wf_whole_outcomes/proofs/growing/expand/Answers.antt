@@ -1,6 +1,6 @@
 -- All processes are tried.
 use Rattle.std.proofs.Common.{arith}
-use Rattle.wf_whole_outcomes.specs.LayersGraph.{rows_in}
+use Rattle.wf_whole_outcomes.specs.Graph.{rows_in}
 use Rattle.wf_whole_outcomes.specs.Nodes.{lists_in}
 use Rattle.wf_whole_outcomes.proofs.Advancing.{all_tried, goes_both, goes_nowhere}
 use Rattle.wf_whole_outcomes.proofs.growing.expand.Goals as goal

@@ -1,5 +1,5 @@
 -- What was gone on from so far, with all steps before this one.
-use Rattle.wf_whole_outcomes.specs.LayersGraph.{GoesOn, rows_in}
+use Rattle.wf_whole_outcomes.specs.Graph.{GoesOn, rows_in}
 use Rattle.wf_whole_outcomes.specs.Nodes.{IsGrown, lists_in}
 use Rattle.wf_whole_outcomes.proofs.growing.expand.Given as goal
 

@@ -1,6 +1,6 @@
 -- From no place until no place is left.
 use Rattle.std.proofs.Common.{◌+◌, arith}
-use Rattle.wf_whole_outcomes.specs.LayersGraph.{rows_in}
+use Rattle.wf_whole_outcomes.specs.Graph.{rows_in}
 use Rattle.wf_whole_outcomes.specs.Nodes.{lists_in}
 use Rattle.wf_whole_outcomes.proofs.Advancing.{goes_both, grows_over}
 use Rattle.wf_whole_outcomes.proofs.growing.layer_behind.Goals as goal

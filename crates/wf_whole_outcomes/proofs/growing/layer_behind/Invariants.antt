@@ -1,6 +1,6 @@
 -- What was gone on from so far, from all places before this one.
 use Rattle.std.proofs.Common.{◌≤◌, length}
-use Rattle.wf_whole_outcomes.specs.LayersGraph.{GoesOn, rows_in}
+use Rattle.wf_whole_outcomes.specs.Graph.{GoesOn, rows_in}
 use Rattle.wf_whole_outcomes.specs.Nodes.{IsGrown, lists_in}
 use Rattle.wf_whole_outcomes.proofs.growing.layer_behind.Given as goal
 

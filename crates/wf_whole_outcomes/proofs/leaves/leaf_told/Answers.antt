@@ -3,7 +3,7 @@ use Rattle.std.proofs.Common.{◌≡◌, ◌∙◌, ◌<◌, ap, subst, sym, ℕ
 use Rattle.std.specs.List.{slice_get}
 use Rattle.wf_history.specs.View.{kept_reply}
 use Rattle.wf_history.specs.declared.kept.KeptReply.{KeptReply}
-use Rattle.wf_whole_outcomes.specs.LayersGraph.{IsNarrow, rows_in}
+use Rattle.wf_whole_outcomes.specs.Graph.{IsNarrow, rows_in}
 use Rattle.wf_whole_outcomes.specs.Nodes.{IsFront, lists_in, spot_in}
 use Rattle.wf_whole_outcomes.specs.declared.edges.Edge.{Edge}
 use Rattle.wf_whole_outcomes.proofs.Listing.{in_map}

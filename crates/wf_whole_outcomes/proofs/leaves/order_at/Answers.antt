@@ -1,6 +1,6 @@
 -- By the way to the node, turned round.
 use Rattle.std.proofs.Common.{◌≡◌, ◌∙◌, ◌<◌, ◌∷◌, [], ℕ, List, All, IfOk, Vec, Global, ap, get_or, length, replicate, subst, sym}
-use Rattle.wf_whole_outcomes.specs.LayersGraph.{rows_in}
+use Rattle.wf_whole_outcomes.specs.Graph.{rows_in}
 use Rattle.wf_whole_outcomes.specs.Layers.{IsLinked, ways_of}
 use Rattle.wf_whole_outcomes.specs.Nodes.{trail_in}
 use Rattle.wf_whole_outcomes.specs.declared.growing.Came.{Came}

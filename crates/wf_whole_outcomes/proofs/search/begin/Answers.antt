@@ -1,6 +1,6 @@
 -- Nothing is said.
 use Rattle.std.proofs.Common.{refl}
-use Rattle.wf_whole_outcomes.specs.LayersGraph.{rows_in}
+use Rattle.wf_whole_outcomes.specs.Graph.{rows_in}
 use Rattle.wf_whole_outcomes.proofs.Fronting.{front_first}
 use Rattle.wf_whole_outcomes.proofs.search.begin.Goals as goal
 

@@ -1,7 +1,7 @@
 -- One layer more, or more than there is room for.
 use Rattle.std.proofs.Common.{◌≡◌, ap, ◌∙◌, ◌+◌, ℕ, Err}
 use Rattle.std.proofs.lemmas.Result.{err_from_is_err_and}
-use Rattle.wf_whole_outcomes.specs.LayersGraph.{rows_in}
+use Rattle.wf_whole_outcomes.specs.Graph.{rows_in}
 use Rattle.wf_whole_outcomes.specs.declared.search.LayersFault.{LayersFault}
 use Rattle.wf_whole_outcomes.specs.declared.search.LayersFault.TheVariants.{TooMany}
 use Rattle.wf_whole_outcomes.proofs.Advancing.{own_edge}

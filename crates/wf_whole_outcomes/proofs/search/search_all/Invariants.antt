@@ -1,6 +1,6 @@
 -- The front behind the steps so far.
 use Rattle.std.proofs.Common.{◌-◌, ◌≤◌, length}
-use Rattle.wf_whole_outcomes.specs.LayersGraph.{rows_in}
+use Rattle.wf_whole_outcomes.specs.Graph.{rows_in}
 use Rattle.wf_whole_outcomes.specs.Nodes.{IsFront}
 use Rattle.wf_whole_outcomes.proofs.search.search_all.Given as goal
 

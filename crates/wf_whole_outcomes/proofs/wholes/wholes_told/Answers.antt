@@ -6,7 +6,7 @@ use Rattle.std.proofs.lemmas.List.{length-map}
 use Rattle.std.proofs.lemmas.Option.{slice_get-get_or}
 use Rattle.std.proofs.lemmas.Result.{err_from_is_err_and}
 use Rattle.wf_history.specs.View.{kept_call, kept_reply}
-use Rattle.wf_whole_outcomes.specs.LayersGraph.{next_from, rows_in}
+use Rattle.wf_whole_outcomes.specs.Graph.{next_from, rows_in}
 use Rattle.wf_whole_outcomes.specs.Layers.{HasOver, IsLayer, ways_of}
 use Rattle.wf_whole_outcomes.specs.Nodes.{IsFront, first_spot, lists_in, spots_in, trail_in}
 use Rattle.wf_whole_outcomes.specs.declared.edges.Edge.{Edge}

@@ -9,7 +9,7 @@ use Rattle.ob_interface.specs.declared.scalar.Scalar.{Scalar}
 use Rattle.ob_object_run.specs.LegalOrder.{CallEnds}
 use Rattle.ob_object_search.specs.Code.{IsCodeOf, IsMadeBy}
 use Rattle.ob_object_search.specs.Kept.{kept_in}
-use Rattle.ob_object_search.specs.declared.coded.ModuleCode.{ModuleCode}
+use Rattle.ob_object_search.specs.declared.scalar_calls.ModuleCode.{ModuleCode}
 use Rattle.ob_object_search.proofs.ByCode.{coded_effect, some_at}
 use Rattle.ob_meaning.specs.ByPositionStore.{Activation}
 use Rattle.wf_history.specs.View.{seen_call}

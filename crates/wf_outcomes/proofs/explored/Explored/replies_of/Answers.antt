@@ -11,8 +11,8 @@ use Rattle.wf_outcomes.specs.declared.replies.Possible.{Possible}
 use Rattle.wf_outcomes.specs.Explored.{kept_in, all_kept, calls_in}
 use Rattle.wf_outcomes.specs.Outcomes.{HasNoReply, IsOnlyReply}
 use Rattle.wf_outcomes.specs.Possible.{had_in}
-use Rattle.wf_outcomes.specs.Made.{AreMade}
-use Rattle.wf_outcomes.specs.declared.made.Made.{Made}
+use Rattle.wf_outcomes.specs.RememberedCalls.{AreMade}
+use Rattle.wf_outcomes.specs.declared.remembered_calls.Made.{Made}
 use Rattle.wf_outcomes.proofs.Meeting.{are_told}
 use Rattle.wf_outcomes.proofs.Replying.{AreSoFar, none_so_far, no_reply, one_reply, all_replies}
 use Rattle.wf_outcomes.proofs.explored.Explored.replies_of.Goals as goal

@@ -1,0 +1,27 @@
+use Rattle.std.proofs.Common.{ℕ, string_bytes, subst}
+use Rattle.std.proofs.lemmas.Result.{IfOk-weaker}
+use Rattle.ob_answer.specs.Answers.{IsBoundAnswer}
+use Rattle.ob_answer_explained.proofs.AtOnce.{holds_of_whole, object_refused}
+use Rattle.ob_answer.proofs.Made.{text_refused}
+use Rattle.ob_fault_lines.specs.CompileFaultLines.{compile_line}
+use Rattle.ob_object_perform.specs.Numbers.{IsBoundText}
+use Rattle.ob_object_compile.specs.Asked.{ByBody, by_body}
+use Rattle.ob_object_compile.specs.Compilation.{IsNumbered, IsRefusal, IsShort}
+use Rattle.ob_answer_files.specs.Printed.{said}
+use Rattle.ob_answer.proofs.text_answers.answer_bound.Goals as goal
+
+pub returns-in-Ok : goal.returns-in-Ok
+returns-in-Ok c whole is =
+    subst (λ (b : ℕ). IsBoundAnswer whole c.args.processes b c.printed.result) c.from.ensures
+    (said (string_bytes c.in-Ok.lines)
+    (holds_of_whole (λ e. e) (by_body c.args.module.now c.args.processes c.from.result) (λ t. IsBoundText t c.args.processes c.from.result (string_bytes c.in-Ok.lines)) _ whole is
+    c.in-Ok.ensures.at_once c.in-Ok.ensures.numbers)
+    c.printed.ensures)
+
+pub returns-in-Err : goal.returns-in-Err
+returns-in-Err c =
+    rw (← c.from.ensures) (text_refused (λ e. e) (by_body c.args.module.now c.args.processes c.from.result) (λ t. IsBoundText t c.args.processes c.from.result)
+    (λ t. IsRefusal IsShort (by_body t c.args.processes c.from.result)) IsNumbered (compile_line ByBody)
+    c.in-Err.fault c.compile_refused.result c.compile_refused.ensures.fault
+    (IfOk-weaker c.compile_refused.result _ _ (λ _ known. (known, c.in-Err.ensures.refused.memory)) c.compile_refused.ensures.memory)
+    c.in-Err.ensures.at_once (λ whole. object_refused IsShort (by_body whole c.args.processes c.from.result)) c.in-Err.ensures.refused)

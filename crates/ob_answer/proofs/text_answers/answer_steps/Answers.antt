@@ -1,0 +1,34 @@
+use Rattle.std.proofs.Common.{inl, inr, string_bytes}
+use Rattle.std.proofs.lemmas.Result.{IfOk-weaker}
+use Rattle.ob_answer_explained.specs.CommandTexts.{texts_of_text}
+use Rattle.ob_answer_explained.proofs.AtOnce.{holds_of_whole, run_refused}
+use Rattle.ob_answer.proofs.Made.{text_refused}
+use Rattle.ob_fault_lines.specs.RunFaultLines.{run_fault_line}
+use Rattle.ob_object_compile.specs.Compilation.{IsShort}
+use Rattle.ob_object_compile.specs.View.{beginning_of}
+use Rattle.ob_object_perform.specs.Performance.{IsNumbered, IsRefusal}
+use Rattle.ob_object_perform.specs.Texts.{texts_of}
+use Rattle.ob_object_perform.specs.declared.performing.PerformFault.TheVariants as Perform
+use Rattle.ob_object_perform.specs.Spent.{IsPrintedWithSteps}
+use Rattle.ob_answer.proofs.text_answers.answer_steps.Goals as goal
+
+pub returns-in-Ok : goal.returns-in-Ok
+returns-in-Ok c whole is =
+    let t = texts_of c.args.texts in
+    inl (
+      string_bytes c.in-Ok.lines,
+      string_bytes c.in-Ok.steps,
+      holds_of_whole Perform.Compile t.asked
+          (λ text. IsPrintedWithSteps (texts_of_text t text) (string_bytes c.in-Ok.lines) (string_bytes c.in-Ok.steps)) _ whole is
+          c.in-Ok.ensures.at_once c.in-Ok.ensures.run,
+      c.printed_beside.ensures,
+    )
+
+pub returns-in-Err : goal.returns-in-Err
+returns-in-Err c =
+    let t = texts_of c.args.texts in
+    IfOk-weaker c.run_refused.result _ _ (λ a h whole is. inr (h whole is))
+    (text_refused Perform.Compile t.asked (λ _ _. ⊥) (λ text. IsRefusal IsShort (texts_of_text t text)) IsNumbered
+    (run_fault_line (beginning_of c.args.texts.asked.beginning)) c.in-Err.fault c.run_refused.result c.run_refused.ensures.fault
+    (IfOk-weaker c.run_refused.result _ _ (λ _ known. (known, c.in-Err.ensures.refused.memory)) c.run_refused.ensures.memory)
+    c.in-Err.ensures.at_once (λ whole. run_refused IsShort (texts_of_text t whole)) c.in-Err.ensures.refused)

@@ -1,4 +1,0 @@
-use Rattle.ob_answer_searches.proofs.wholes_answering.answer_whole_outcomes.Goals as goal
-
-pub returns : goal.returns
-returns g c = rw (← c.in_ok-bounds.ensures.always, ← c.in_ok-bounds.ensures.most) c.answer_wholes.ensures

@@ -1,0 +1,171 @@
+//! Places of configurations at which the replies of all calls are to be seen.
+
+ghost use Rattle.std.specs.Prelude.{◌≡◌, ◌<◌, ◌+◌, length, get_or, IfOk, OnOk, IsTrue};
+ghost use Rattle.indexmap.specs.IndexSet.{index_set_len};
+ghost use Rattle.wf_outcomes.specs.Meetings.{AreMarks, AreTelling, IsMarked, IsMet, IsPlaced, MeetsAlike};
+
+use crate::remembered_calls::has_same_words;
+use crate::seen::{Found, Keys, Seen, Stated};
+use indexmap::IndexSet;
+use ob_interface::NoMemory;
+use std::alloc::Global;
+use std::rc::Rc;
+
+/// How many states are numbered at most.
+const STATES: usize = 1024;
+
+/// How many meetings of a call and a state are remembered at most.
+const MARKS: usize = 1 << 16;
+
+/// States by numbers.
+type Numbers<S> = IndexSet<Rc<Stated<S>>, Keys>;
+
+/// Places at which each call meets each state that it can meet, and of a call and a state the place at which they met last, as
+/// far as it is remembered.
+#[derive(Drop)]
+struct Meetings {
+    places: Vec<usize>,
+    marks: Vec<usize>,
+}
+
+/// The number of a state, or one too many where it has none.
+fn number_of<S: Drop>(numbers: &mut Numbers<S>, state: &Rc<Stated<S>>) -> Result<usize, NoMemory> {
+    if numbers.len() >= STATES {
+        return Ok(numbers.get_index_of(state).unwrap_or(MARKS));
+    }
+    let (number, _) = numbers.insert_full(state.clone()?)?;
+    Ok(number)
+}
+
+/// Where it is marked that the next call of a process met the state of this number.
+fn row_of<S>(here: &Found<S>, number: usize, process: usize) -> usize {
+    let calls = number
+        .wrapping_mul(31)
+        .wrapping_add(count_at(here, process) as usize);
+    calls.wrapping_mul(here.counts.len()).wrapping_add(process) % MARKS
+}
+
+/// How many calls of a process are made.
+fn count_at<S>(one: &Found<S>, process: usize) -> u32
+    ensures { result ≡ get_or one.now.counts.items process 0 }
+{
+    one.counts.as_slice().get(process).copied().unwrap_or(0)
+}
+
+/// Whether as many calls of the process are made at both, on the same state.
+fn meets_alike<S>(one: &Found<S>, other: &Found<S>, process: usize) -> bool
+    requires { process < length one.now.counts.items }
+    ensures { IsTrue result → MeetsAlike process one.now other.now }
+{
+    let count = count_at(one, process);
+    let taken = count_at(other, process);
+    count == taken && has_same_words(one.kept.as_ref(), other.kept.as_ref())
+}
+
+/// Whether it is marked that the next call of a process met the state.
+fn is_met<S>(
+    seen: &Seen<S>,
+    meetings: &Meetings,
+    row: usize,
+    here: &Found<S>,
+    process: usize,
+) -> bool
+    requires { AreMarks meetings.now.marks.items meetings.now.places.items }
+    ensures { IsTrue result → IsMet seen.now.keys meetings.now.places.items process here.now }
+{
+    let Some(place) = meetings.marks.as_slice().get(row) else {
+        return false;
+    };
+    let Some(one) = seen.get_index(*place) else {
+        return false;
+    };
+    if process >= one.counts.len() {
+        return false;
+    }
+    meets_alike(one, here, process)
+}
+
+/// One more place, unless it is the last one.
+fn add_place(places: &mut Vec<usize>, place: usize) -> Result<(), NoMemory>
+    ensures { OnOk result (IsPlaced places.old.items places.new.items place) }
+{
+    let many = places.len();
+    if many > 0 && places[many - 1] == place {
+        return Ok(());
+    }
+    places.push(place)?;
+    Ok(())
+}
+
+/// Marks enough for a row.
+fn reach(marks: &mut Vec<usize>, row: usize, place: usize) -> Result<(), NoMemory>
+    ensures long { OnOk result (row < length marks.new.items) }
+    ensures marks { OnOk result (IsMarked marks.old.items marks.new.items place) }
+{
+    while marks.len() <= row {
+        marks.push(place)?;
+    }
+    Ok(())
+}
+
+/// The place is marked at a row.
+fn mark(marks: &mut Vec<usize>, row: usize, place: usize) -> Result<(), NoMemory>
+    ensures { OnOk result (IsMarked marks.old.items marks.new.items place) }
+{
+    reach(marks, row, place)?;
+    marks[row] = place;
+    Ok(())
+}
+
+/// The next call of a process meets the state at this place.
+fn note(meetings: &mut Meetings, row: usize, place: usize) -> Result<(), NoMemory>
+    requires { AreMarks meetings.old.marks.items meetings.old.places.items }
+    ensures placed { OnOk result (IsPlaced meetings.old.places.items meetings.new.places.items place) }
+    ensures marks { OnOk result (AreMarks meetings.new.marks.items meetings.new.places.items) }
+{
+    add_place(&mut meetings.places, place)?;
+    mark(&mut meetings.marks, row, place)?;
+    Ok(())
+}
+
+/// Sees that the next call of each process meets the state of a configuration at one of the places.
+fn meet<S: Drop>(
+    seen: &Seen<S>,
+    meetings: &mut Meetings,
+    place: usize,
+    number: usize,
+) -> Result<(), NoMemory>
+    requires place { place < index_set_len seen.now }
+    requires telling { AreTelling seen.now.keys meetings.old.places.items place }
+    requires marks { AreMarks meetings.old.marks.items meetings.old.places.items }
+    ensures telling { OnOk result (AreTelling seen.now.keys meetings.new.places.items (place + 1)) }
+    ensures marks { OnOk result (AreMarks meetings.new.marks.items meetings.new.places.items) }
+{
+    let here = &seen[place];
+    for process in 0..here.counts.len() {
+        let row = row_of(here, number, process);
+        if !is_met(seen, meetings, row, here, process) {
+            note(meetings, row, place)?;
+        }
+    }
+    Ok(())
+}
+
+/// Places at which the next call of each process meets each state that it meets at any: all replies are to be seen there.
+pub(crate) fn telling_places<S: Drop>(
+    alloc: Global,
+    seen: &Seen<S>,
+    keys: Keys,
+) -> Result<Vec<usize>, NoMemory>
+    ensures { IfOk result (λ places. AreTelling seen.now.keys places.items (length seen.now.keys)) }
+{
+    let mut numbers = Numbers::with_hasher(alloc, keys);
+    let places = Vec::new(alloc);
+    let marks = Vec::new(alloc);
+    let mut meetings = Meetings { places, marks };
+    for place in 0..seen.len() {
+        let number = number_of(&mut numbers, &seen[place].kept)?;
+        meet(seen, &mut meetings, place, number)?;
+    }
+    Ok(meetings.places)
+}

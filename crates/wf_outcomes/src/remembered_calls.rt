@@ -1,0 +1,199 @@
+//! Calls that were made, so that few are made twice.
+
+ghost use Rattle.std.specs.Prelude.{◌≡◌, ◌<◌, length, slice_set, Some, IfOk, IfSome, OnOk, IsTrue};
+ghost use Rattle.ob_interface.specs.View.{reply_of};
+ghost use Rattle.wf_history.specs.View.{kept_call};
+ghost use Rattle.wf_outcomes.specs.RememberedCalls.{AreMade, IsAfter, IsMade, IsNothing, IsRecalled, IsStated};
+ghost use Rattle.wf_outcomes.specs.Outcomes.{Answers};
+
+use crate::seen::Stated;
+use crate::step::{Task, applied};
+use ob_interface::NoMemory;
+use ob_interface::call::Reply;
+use ob_interface::scalar::Scalar;
+use smallvec::SmallVec;
+use std::alloc::{AllocError, Global};
+use std::hash::{FoldHasher, Hasher};
+use std::rc::Rc;
+use wf_history::KeptCall;
+use wf_order::Object;
+
+/// How many calls are remembered at most.
+const ROWS: usize = 1024;
+
+/// What a call made of a state, and its reply.
+#[derive(Drop)]
+pub struct Made<'a, S> {
+    pub(crate) before: Rc<Stated<S>>,
+    pub(crate) call: &'a KeptCall,
+    pub(crate) after: Rc<Stated<S>>,
+    pub(crate) reply: Reply,
+}
+
+/// Calls that were made, each at the row of its state and call, where it stands until another one comes there.
+pub type Memory<'a, S> = Vec<Option<Made<'a, S>>>;
+
+/// No call is remembered.
+pub(crate) fn nothing_made<'a, S: Drop>(alloc: Global) -> Result<Memory<'a, S>, NoMemory>
+    ensures { IfOk result (λ memory. IsNothing memory.items) }
+{
+    let mut memory = Vec::with_capacity(alloc, ROWS)?;
+    for _ in 0..ROWS {
+        memory.push(None)?;
+    }
+    Ok(memory)
+}
+
+/// A scalar as a number.
+fn number_of(scalar: Scalar) -> u64 {
+    match scalar {
+        Scalar::Int(number) => number.cast_unsigned() as u64,
+        Scalar::Bool(false) => 0,
+        Scalar::Bool(true) => 1,
+    }
+}
+
+/// The row of a call on a state.
+fn row_of<S>(before: &Stated<S>, call: &KeptCall) -> usize {
+    let mut hasher = FoldHasher::default();
+    for word in before.words.as_slice() {
+        hasher.write_u64(*word);
+    }
+    hasher.write_usize(call.proc);
+    let args = call.args.lent();
+    for scalar in args.as_slice() {
+        hasher.write_u64(number_of(*scalar));
+    }
+    (hasher.finish() % ROWS as u64) as usize
+}
+
+/// Whether two calls are the same.
+fn is_same_call(call: &KeptCall, other: &KeptCall) -> bool
+    ensures { IsTrue result → kept_call call.now ≡ kept_call other.now }
+{
+    call.proc == other.proc && call.args.lent().as_slice() == other.args.lent().as_slice()
+}
+
+/// Whether two states have the same words.
+pub(crate) fn has_same_words<S>(one: &Stated<S>, other: &Stated<S>) -> bool
+    ensures { IsTrue result → one.now.words.items ≡ other.now.words.items }
+{
+    one.words.as_slice() == other.words.as_slice()
+}
+
+/// Whether this call was made on a state with the same words.
+fn is_made_so<S>(made: &Made<'_, S>, before: &Stated<S>, call: &KeptCall) -> bool
+    ensures { IsTrue result → (made.now.before.value.words.items ≡ before.now.words.items) × (kept_call made.now.call.now ≡ kept_call call.now) }
+{
+    if !has_same_words(made.before.as_ref(), before) {
+        return false;
+    }
+    is_same_call(made.call, call)
+}
+
+/// The call on a state as it was made before, if that is remembered.
+fn recalled<'m, 'a, S>(
+    memory: &'m [Option<Made<'a, S>>],
+    before: &Stated<S>,
+    call: &KeptCall,
+) -> Option<&'m Made<'a, S>>
+    ensures { IfSome result (λ made. IsRecalled memory.now before.now call.now made.now) }
+{
+    let Some(slot) = memory.get(row_of(before, call)) else {
+        return None;
+    };
+    let Some(made) = slot else {
+        return None;
+    };
+    if !is_made_so(made, before, call) {
+        return None;
+    }
+    Some(made)
+}
+
+/// A call is made on a state.
+fn made_now<'a, O: Object>(
+    task: &Task<'a, O>,
+    before: &Rc<Stated<O::State>>,
+    call: &'a KeptCall,
+) -> Result<Made<'a, O::State>, NoMemory>
+    requires { IsStated O.meaning O.words_of before.now.value }
+    ensures made { IfOk result (IsMade O.meaning O.words_of (O.effect task.now.object.now)) }
+    ensures before { IfOk result (λ made. made.before.value ≡ before.now.value) }
+    ensures call { IfOk result (λ made. made.call.now ≡ call.now) }
+{
+    let alloc = task.alloc;
+    let (state, reply) = applied(alloc, task.object, &before.as_ref().state, call)?;
+    let words = task.object.words(alloc, &state)?;
+    let after = Rc::new(alloc, Stated { words, state })?;
+    let before = before.clone()?;
+    Ok(Made {
+        before,
+        call,
+        after,
+        reply,
+    })
+}
+
+/// A call is remembered.
+fn remember<'a, S: Drop>(memory: &mut Memory<'a, S>, row: usize, made: Made<'a, S>)
+    requires { row < length memory.old.items }
+    ensures { memory.new.items ≡ slice_set memory.old.items row (Some made.entry) }
+{
+    memory[row] = Some(made);
+}
+
+/// What a call makes of a state. Where it is not remembered, it is made, and remembered now.
+pub(crate) fn after<'a, O: Object>(
+    task: &Task<'a, O>,
+    memory: &mut Memory<'a, O::State>,
+    before: &Rc<Stated<O::State>>,
+    call: &'a KeptCall,
+) -> Result<Rc<Stated<O::State>>, NoMemory>
+    requires before { IsStated O.meaning O.words_of before.now.value }
+    requires memory { AreMade O.meaning O.words_of (O.effect task.now.object.now) memory.old.items }
+    ensures memory { OnOk result (AreMade O.meaning O.words_of (O.effect task.now.object.now) memory.new.items) }
+    ensures after { IfOk result (λ after. IsAfter O.meaning O.words_of (O.effect task.now.object.now) (kept_call call.now) before.now.value after.value) }
+{
+    if let Some(made) = recalled(memory.as_slice(), before.as_ref(), call) {
+        let known = made.after.clone()?;
+        return Ok(known);
+    }
+    let row = row_of(before.as_ref(), call);
+    let made = made_now(task, before, call)?;
+    let after = made.after.clone()?;
+    if row >= memory.len() {
+        return Ok(after);
+    }
+    remember(memory, row, made);
+    Ok(after)
+}
+
+/// The reply once more.
+fn copied(alloc: Global, reply: &Reply) -> Result<Reply, AllocError>
+    ensures { IfOk result (λ copy. reply_of copy ≡ reply_of reply.now) }
+{
+    match reply {
+        Reply::Done(values) => Ok(Reply::Done(SmallVec::from_slice(alloc, values.as_slice())?)),
+        Reply::Trap(number) => Ok(Reply::Trap(*number)),
+    }
+}
+
+/// What a call answers on a state, as it is remembered, or as it is made now.
+pub(crate) fn reply_to<O: Object>(
+    task: &Task<'_, O>,
+    memory: &[Option<Made<'_, O::State>>],
+    before: &Stated<O::State>,
+    call: &KeptCall,
+) -> Result<Reply, NoMemory>
+    requires before { IsStated O.meaning O.words_of before.now }
+    requires memory { ∥ AreMade O.meaning O.words_of (O.effect task.now.object.now) memory.now ∥₁ }
+    ensures { IfOk result (λ reply. ∥ Answers (O.effect task.now.object.now) (kept_call call.now) (reply_of reply) (O.meaning before.now.state) ∥₁) }
+{
+    if let Some(made) = recalled(memory, before, call) {
+        let known = copied(task.alloc, &made.reply)?;
+        return Ok(known);
+    }
+    let (_, reply) = applied(task.alloc, task.object, &before.state, call)?;
+    Ok(reply)
+}
