@@ -11,7 +11,9 @@ ghost use Rattle.ob_command.specs.CommandLine.{Bound, Check, DrawHistory, DrawRe
 ghost use Rattle.ob_command.specs.Commands.{calls_request_of, order_request_of, outcomes_request_of, request_of, run_request_of, seen_request_of, seq_request_of};
 
 use crate::all_runs::{AllRuns, obey_all_runs};
-use crate::explaining::{obey_explain_history, obey_explain_module, obey_explain_record};
+use crate::explaining::{
+    answer_fault, obey_explain_history, obey_explain_module, obey_explain_record,
+};
 use crate::making::{answer_bound, answer_check, answer_draw_seen, answer_list, answer_verify};
 use crate::making_schedules::{obey_chance, obey_finished};
 use crate::obeying::{obey_calls, obey_run, obey_serve};
@@ -164,6 +166,7 @@ fn reads_input_twice(command: Command<'_>) -> bool
         } => are_two_inputs(&[module_name, record_name]),
         Command::Order(order) => are_two_inputs(&[order.module_name, order.history_name]),
         Command::Explain { .. } => false,
+        Command::ExplainFault { .. } => false,
         Command::ExplainCalls(calls) => are_inputs_of_calls(calls),
         Command::ExplainTraps(calls) => are_inputs_of_calls(calls),
         Command::ExplainRun(run) => are_inputs_of_run(run),
@@ -260,6 +263,7 @@ fn obey<K: RandomSource, F: Files>(
         } => obey_verify(alloc, module_name, record_name, files),
         Command::Order(order) => obey_order(keys, alloc, order, files),
         Command::Explain { module_name, .. } => obey_explain_module(alloc, module_name, files),
+        Command::ExplainFault { name } => answer_fault(alloc, name),
         Command::ExplainCalls(calls) => obey_calls(alloc, CallsProduct::Explanation, calls, files),
         Command::ExplainTraps(calls) => obey_calls(alloc, CallsProduct::Traps, calls, files),
         Command::ExplainRun(run) => obey_run(alloc, Product::Explanation, run, files),
