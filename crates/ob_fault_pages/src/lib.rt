@@ -4,6 +4,7 @@
 #![tactic(auto)]
 
 pub mod call_rows;
+pub mod laws;
 pub mod object_rows;
 pub mod page;
 pub mod record_rows;
