@@ -15,6 +15,7 @@ mod order_place;
 pub mod order_remark;
 pub mod record;
 pub mod records_form_remark;
+mod spots;
 mod told;
 pub mod traps;
 
