@@ -35,7 +35,7 @@ in_table [] word = refl
 in_table (row ∷ rows) word = at (bytes_eq row.name word) (in_table rows word) ∙ ap (λ (b : Bool). b || list_any (bytes_eq word) (names_in rows)) (turned row.name word)
   where
     at : (b : Bool) → is_some (page_in rows word) ≡ list_any (bytes_eq word) (names_in rows)
-      → is_some (option_map (λ (r : Page). r.text) (cond b (Some row) (find (λ (r : Page). bytes_eq r.name word) rows))) ≡ (b || list_any (bytes_eq word) (names_in rows))
+        → is_some (option_map (λ (r : Page). r.text) (cond b (Some row) (find (λ (r : Page). bytes_eq r.name word) rows))) ≡ (b || list_any (bytes_eq word) (names_in rows))
     at true rest = refl
     at false rest = rest
 
