@@ -2,7 +2,8 @@
 
 A module is the text of one-thread code, a script one of calls, a schedule one of who steps, a record one of what a run showed, and a
 history one of what somebody saw of any object: each is a str, or bytes of UTF-8. `check`, `seq`, `run`, `state`, `verify`, `order`,
-`draw`, `explain` and `bound` answer as the commands of these names do; `answer` takes any words of the command line but `serve`, and any files.
+`draw`, `explain` and `bound` answer as the commands of these names do, and `page` says what a fault is; `answer` takes any words of the
+command line but `serve`, and any files.
 
     import obl0
     module = open("examples/counter.mod").read()
@@ -33,7 +34,7 @@ Value = Union[int, bool, List[Any], Dict[str, Any]]
 
 __all__ = [
     "Answer", "Event", "Fault", "History", "Object", "Process", "Record", "State", "Trap", "answer", "bound", "check", "draw", "explain", "order",
-    "run", "seq", "state", "verify",
+    "page", "run", "seq", "state", "verify",
 ]
 
 MEMORY = 4
@@ -482,6 +483,11 @@ def explain(module: Text, history: Union[History, Text, None] = None, *, script:
     if given.status > 1:
         raise Fault(given.err.decode().rstrip("\n"), given.status)
     return (given.out + given.err).decode().rstrip("\n")
+
+
+def page(fault: str) -> str:
+    """What the page of faults says of a fault, by its name, as `H4` or `trap 5`."""
+    return _printed(["explain", fault], {}).out.decode()
 
 
 def bound(module: Text, *, processes: int, turns: Optional[int] = None) -> Dict[str, int]:

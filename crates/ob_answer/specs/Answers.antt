@@ -9,6 +9,7 @@ use Rattle.ob_fault_lines.specs.RunFaultLines.{run_fault_line}
 use Rattle.ob_fault_lines.specs.SequentialFaultLines.{seq_fault_line}
 use Rattle.ob_fault_lines.specs.ServeFaultLines.{serve_fault_line}
 use Rattle.ob_fault_lines.specs.VerifyFaultLines.{verify_fault_line}
+use Rattle.ob_fault_pages.specs.Pages.{page_text}
 use Rattle.ob_desk_serve.specs.ServedTexts.{IsServedPrinted}
 use Rattle.ob_object_perform.specs.Numbers.{IsBoundText}
 use Rattle.ob_object_compile.specs.Asked.{Asked, ByBody, by_body}
@@ -31,7 +32,7 @@ use Rattle.ob_answer_searches.specs.HistoryPictureAnswers.{IsHistoryPictureAnswe
 use Rattle.ob_text_scripts.specs.Chance.{IsOfSteps}
 use Rattle.ob_text_scripts.specs.Finish.{IsFinished}
 use Rattle.ob_command.specs.CommandLine.{CallsRequest, ChanceRequest, Request, RunRequest, SeqRequest, Text, default_most, Check, Listing, Seq, Live, Run, RunTree, RunSteps, RunFinished, RunByChance, Serve, Draw, DrawHistory, DrawRecord, Outcomes, State, Verify, Order, request}
-use Rattle.ob_command.specs.CommandLine.{Explain, ExplainAlways, ExplainCalls, ExplainTraps, ExplainRun, ExplainRecord, ExplainHistory, Bound, Help, Version, Unclear}
+use Rattle.ob_command.specs.CommandLine.{Explain, ExplainAlways, ExplainCalls, ExplainFault, ExplainTraps, ExplainRun, ExplainRecord, ExplainHistory, Bound, Help, Version, Unclear}
 use Rattle.ob_command.specs.Commands.{IsMistakeTextOf, calls_request_of, chance_request_of, run_request_of}
 use Rattle.ob_command.specs.declared.command.CallNumbers.{CallNumbers}
 use Rattle.ob_command.specs.declared.command.CallsCommand.{CallsCommand}
@@ -319,6 +320,7 @@ IsMade (Verify module_name record_name) (module_bytes ∷ record_bytes ∷ []) a
 IsMade (Order order) (module_bytes ∷ history_bytes ∷ []) answer =
     IsProductAnswer order.product module_bytes history_bytes order.budget order.most answer
 IsMade (Explain module_name budget) (module_bytes ∷ []) answer = IsModuleExplained module_name module_bytes answer
+IsMade (ExplainFault name) [] answer = IsPrinted answer (page_text name)
 IsMade (ExplainCalls calls) bytes answer = IsCallsMade CallsProducts.Explanation calls bytes answer
 IsMade (ExplainTraps calls) bytes answer = IsCallsMade CallsProducts.Traps calls bytes answer
 IsMade (ExplainRun run) bytes answer = IsRunMade Products.Explanation run bytes answer

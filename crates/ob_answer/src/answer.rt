@@ -12,7 +12,9 @@ ghost use Rattle.ob_command.specs.Commands.{calls_request_of, order_request_of, 
 
 use crate::all_runs::{AllRuns, obey_all_runs};
 use crate::command_answers::{obey_calls, obey_run, obey_serve};
-use crate::explaining::{obey_explain_history, obey_explain_module, obey_explain_record};
+use crate::explaining::{
+    answer_fault, obey_explain_history, obey_explain_module, obey_explain_record,
+};
 use crate::printed_forms::{CallsProduct, Product};
 use crate::schedule_answers::{obey_chance, obey_finished};
 use crate::text_answers::{
@@ -166,6 +168,7 @@ fn reads_input_twice(command: Command<'_>) -> bool
         } => are_two_inputs(&[module_name, record_name]),
         Command::Order(order) => are_two_inputs(&[order.module_name, order.history_name]),
         Command::Explain { .. } => false,
+        Command::ExplainFault { .. } => false,
         Command::ExplainCalls(calls) => are_inputs_of_calls(calls),
         Command::ExplainTraps(calls) => are_inputs_of_calls(calls),
         Command::ExplainRun(run) => are_inputs_of_run(run),
@@ -262,6 +265,7 @@ fn obey<K: RandomSource, F: Files>(
         } => obey_verify(alloc, module_name, record_name, files),
         Command::Order(order) => obey_order(keys, alloc, order, files),
         Command::Explain { module_name, .. } => obey_explain_module(alloc, module_name, files),
+        Command::ExplainFault { name } => answer_fault(alloc, name),
         Command::ExplainCalls(calls) => obey_calls(alloc, CallsProduct::Explanation, calls, files),
         Command::ExplainTraps(calls) => obey_calls(alloc, CallsProduct::Traps, calls, files),
         Command::ExplainRun(run) => obey_run(alloc, Product::Explanation, run, files),

@@ -2,7 +2,9 @@
 
 ghost use Rattle.std.specs.Prelude.{ℕ, IfOk};
 ghost use Rattle.ob_answer.specs.Answers.{IsObeyed};
+ghost use Rattle.ob_answer_files.specs.Printed.{IsPrinted};
 ghost use Rattle.ob_command.specs.CommandLine.{Explain, ExplainHistory, ExplainRecord};
+ghost use Rattle.ob_fault_pages.specs.Pages.{page_text};
 
 use ob_answer_explained::explaining::explain_module;
 use ob_answer_explained::explaining_runs::explain_record;
@@ -10,6 +12,7 @@ use ob_answer_files::answered::Answer;
 use ob_answer_files::files::{FileFault, Files};
 use ob_answer_files::reading::{MODULE_BYTES, TwoFiles, read_two, unreadable};
 use ob_answer_searches::history_explained::{HistoryFiles, explain_history};
+use ob_fault_pages::page::page_text;
 use ob_interface::NoMemory;
 use std::alloc::Global;
 use std::random::RandomSource;
@@ -27,6 +30,14 @@ pub(crate) fn obey_explain_module<F: Files>(
         Err(FileFault::Unreadable) => Ok(unreadable(alloc, module_name)?),
         Err(FileFault::NoMemory) => Err(NoMemory),
     }
+}
+
+/// The answer to `explain` of a fault's name: its page.
+pub(crate) fn answer_fault(alloc: Global, name: &str) -> Result<Answer, NoMemory>
+    ensures { IfOk result (λ a. IsPrinted a (page_text name.now)) }
+{
+    let text = String::from_str(alloc, page_text(name))?;
+    Ok(Answer::printed(alloc, text))
 }
 
 /// The answer to `explain` on a record, of the names of its files.

@@ -1,5 +1,5 @@
 -- What the words of the command line ask for, by what clap makes of them.
-use Rattle.std.specs.Prelude.{ℕ, ◌==◌, ◌+◌, ◌++◌, ◌&&◌, ◌||◌, Bool, true, false, not, List, [], ◌∷◌, Option, Some, None, find, is_some, nat_le, nat_lt, slice_get, option_and_then, option_map, unwrap_or, codes, if◌then◌else◌}
+use Rattle.std.specs.Prelude.{ℕ, ◌==◌, ◌+◌, ◌++◌, ◌&&◌, ◌||◌, Bool, true, false, not, List, [], ◌∷◌, Option, Some, None, find, is_some, map, nat_le, nat_lt, slice_get, option_and_then, option_map, unwrap_or, codes, if◌then◌else◌}
 use Rattle.std.specs.Char.{is_ascii_digit}
 use Rattle.std.specs.List.{after_first, before_first, list_all, list_any}
 use Rattle.std.specs.Option.{option_map_or}
@@ -14,6 +14,7 @@ use Rattle.ob_command.specs.declared.command.OrderProduct.{OrderProduct}
 use Rattle.ob_command.specs.declared.command.OrderProduct.TheVariants.{Apart, Line, WholeRecord}
 use Rattle.ob_command.specs.declared.command.RunProduct.{RunProduct}
 use Rattle.ob_command.specs.declared.command.RunProduct.TheVariants as products
+use Rattle.ob_command.specs.declared.fault_names.TheConstants.{FAULT_NAMES}
 use Rattle.ob_command.specs.declared.given.Part.{Part}
 use Rattle.ob_command.specs.declared.given.Part.TheVariants.{Script, Schedule, Record, History, From, Processes, Budget, Most, Always, Tree, Steps, Traps, Seed, Length, Finish}
 
@@ -84,7 +85,7 @@ pub record SeenRequest : Type 0 where
 -- same run by the tree of the module; the record with the own steps of its calls beside it; the same of a run that goes on until each call has
 -- ended, and of a run by a schedule of chance; the record of workers' run; a run's picture; that of a record or of a history, and of a history
 -- by a search that is told how to search; what may happen over all runs; the state behind a run; the order of a record checked; a legal order of a history; what is
--- wrong with a module, or with a module and a script, shown to people; how all runs come to what is not to be; where the calls of a script trap, shown to people; what is wrong with a run; the same of a record, and of a history; how many
+-- wrong with a module, or with a module and a script, shown to people; what a fault is; how all runs come to what is not to be; where the calls of a script trap, shown to people; what is wrong with a run; the same of a record, and of a history; how many
 -- own steps a call takes at most; help; the version; or nothing that there is. A command has the names of its files, and a budget is how
 -- many turns each call has. A picture has some calls, or all.
 pub data Request : Type 0 where
@@ -106,6 +107,7 @@ pub data Request : Type 0 where
   Verify : (module_name record_name : Text) → Request
   Order : (order : OrderRequest) → Request
   Explain : (module_name : Text) (budget : ℕ) → Request
+  ExplainFault : (name : Text) → Request
   ExplainCalls : (calls : CallsRequest) → Request
   ExplainTraps : (calls : CallsRequest) → Request
   ExplainRun : (run : RunRequest) → Request
@@ -490,13 +492,25 @@ draw_forms =
     ∷ form [] (Schedule ∷ Processes ∷ From ∷ []) history_picture_of
     ∷ []
 
--- what is explained of a module alone, or with calls
+-- the names of the faults that have a page
+unfoldable pub fault_names : List Text
+fault_names = map (λ name. name.now) FAULT_NAMES.now
+
+abbrev pub names_fault : Text → Bool
+names_fault word = list_any (bytes_eq word) fault_names
+
+-- What is explained of one name, with a budget or without: where it stands alone and is that of a fault, the fault; and else a module.
+abbrev pub explain_alone : (name : Text) (budget : Option ℕ) → Request
+explain_alone name (Some budget) = Explain name budget
+explain_alone name None = if names_fault name then ExplainFault name else Explain name default_budget
+
+-- what is explained of a module alone or of a fault, or of a module with calls
 abbrev pub explain_calls_forms : List Form
 explain_calls_forms =
     form (Traps ∷ []) (Record ∷ History ∷ Always ∷ Schedule ∷ Processes ∷ []) (λ m given. option_map ExplainTraps (sequence_of m given))
     ∷ form (Schedule ∷ []) (Record ∷ History ∷ Always ∷ Traps ∷ []) (λ m given. option_map ExplainRun (run_of m given))
     ∷ form (Script ∷ []) (Record ∷ History ∷ Always ∷ Traps ∷ Schedule ∷ Processes ∷ []) (λ m given. option_map ExplainCalls (sequence_of m given))
-    ∷ form [] (Record ∷ History ∷ Always ∷ Traps ∷ Schedule ∷ Script ∷ Processes ∷ From ∷ []) (λ m given. Some (Explain m (turns_of given)))
+    ∷ form [] (Record ∷ History ∷ Always ∷ Traps ∷ Schedule ∷ Script ∷ Processes ∷ From ∷ []) (λ m given. Some (explain_alone m given.budget))
     ∷ []
 
 -- the same, or of all runs
@@ -564,7 +578,7 @@ turned_mistake =
 -- and of words behind `explain` that are in none of its forms
 abbrev pub explain_mistake : Text
 explain_mistake =
-    codes "error: these words are in no form of explain, which are\n  obl0 explain MODULE\n  obl0 explain MODULE SCRIPT [-b BUDGET] [--from RECORD] [--traps]\n  obl0 explain MODULE SCRIPT SCHEDULE -n N [-b BUDGET] [--from RECORD]\n  obl0 explain MODULE SCRIPT -n N --always NAME [-b BUDGET] [--from RECORD]\n  obl0 explain MODULE --record RECORD\n  obl0 explain MODULE --history HISTORY\n\nFor more information, try '--help'.\n"
+    codes "error: these words are in no form of explain, which are\n  obl0 explain MODULE\n  obl0 explain FAULT\n  obl0 explain MODULE SCRIPT [-b BUDGET] [--from RECORD] [--traps]\n  obl0 explain MODULE SCRIPT SCHEDULE -n N [-b BUDGET] [--from RECORD]\n  obl0 explain MODULE SCRIPT -n N --always NAME [-b BUDGET] [--from RECORD]\n  obl0 explain MODULE --record RECORD\n  obl0 explain MODULE --history HISTORY\n\nFor more information, try '--help'.\n"
 
 -- and of numbers behind `order` that are out of their ranges
 abbrev pub seen_budget_mistake : Text

@@ -18,7 +18,7 @@ use Rattle.ob_command.specs.declared.given.GivenWords.{GivenWords}
 use Rattle.ob_command.specs.declared.command.Stop.{Stop}
 use Rattle.ob_command.specs.declared.command.Stop.TheVariants as stops
 use Rattle.ob_command_line.specs.ClapCommand.{obl0_app}
-use Rattle.ob_command.specs.CommandLine.{Text, clap_words, extra_of_help, form_mistake_of, has_negative, help_mistake, loose_number, number_sentence, number_tip, AlwaysRequest, CallsRequest, ChanceRequest, Given, OrderRequest, OutcomesRequest, Request, RunRequest, SeenRequest, SeqRequest, Check, Listing, Seq, Live, Run, RunTree, RunSteps, RunFinished, RunByChance, Serve, Draw, DrawRecord, DrawHistory, Outcomes, State, Verify, Order, Explain, ExplainCalls, ExplainTraps, ExplainRun, ExplainAlways, ExplainRecord, ExplainHistory, Bound, Help, Version, Unclear}
+use Rattle.ob_command.specs.CommandLine.{Text, clap_words, extra_of_help, form_mistake_of, has_negative, help_mistake, loose_number, number_sentence, number_tip, AlwaysRequest, CallsRequest, ChanceRequest, Given, OrderRequest, OutcomesRequest, Request, RunRequest, SeenRequest, SeqRequest, Check, Listing, Seq, Live, Run, RunTree, RunSteps, RunFinished, RunByChance, Serve, Draw, DrawRecord, DrawHistory, Outcomes, State, Verify, Order, Explain, ExplainFault, ExplainCalls, ExplainTraps, ExplainRun, ExplainAlways, ExplainRecord, ExplainHistory, Bound, Help, Version, Unclear}
 
 -- what is given by words
 abbrev pub given_by : GivenWords → Given
@@ -113,6 +113,7 @@ request_of (commands.State run) = State (run_request_of run)
 request_of (commands.Verify module_name record_name) = Verify module_name.now record_name.now
 request_of (commands.Order order) = Order (order_request_of order)
 request_of (commands.Explain module_name budget) = Explain module_name.now budget
+request_of (commands.ExplainFault name) = ExplainFault name.now
 request_of (commands.ExplainCalls calls) = ExplainCalls (calls_request_of calls)
 request_of (commands.ExplainTraps calls) = ExplainTraps (calls_request_of calls)
 request_of (commands.ExplainRun run) = ExplainRun (run_request_of run)

@@ -3,7 +3,7 @@
 ghost use Rattle.std.specs.Prelude.{◌≡◌, Some, option_map, true};
 ghost use Rattle.std.specs.Option.{option_map_or};
 ghost use Rattle.ob_command.specs.CommandLine.{always_of, are_reached, are_seen, asked, asked_by, bound_of, calls_by, calls_of, chance_by};
-ghost use Rattle.ob_command.specs.CommandLine.{chance_of, draw_forms, explain_calls_forms, explain_forms, explain_script_forms, finished_of, history_picture_by, history_picture_of, is_length, live_of};
+ghost use Rattle.ob_command.specs.CommandLine.{chance_of, draw_forms, explain_alone, explain_calls_forms, explain_forms, explain_script_forms, finished_of, history_picture_by, history_picture_of, is_length, live_of};
 ghost use Rattle.ob_command.specs.CommandLine.{is_most, is_place, is_seen_budget, order_by, order_of, outcomes_by, outcomes_of, picture_of, product_by, product_of};
 ghost use Rattle.ob_command.specs.CommandLine.{record_picture_of, run_file_forms, run_forms, run_of, run_product, seq_of, sequence_of, turns_of};
 ghost use Rattle.ob_command.specs.Commands.{calls_request_of, chance_request_of, given_by, request_of, run_request_of};
@@ -13,6 +13,7 @@ use crate::command::{
     AlwaysCommand, CallNumbers, CallsCommand, ChanceCommand, Command, OrderCommand, OrderProduct,
     OutcomesCommand, RunCommand, RunProduct, SeenCommand, SeqCommand,
 };
+use crate::faults::names_fault;
 use crate::given::{GivenWords, Part, fits};
 
 /// How many turns each call has where nothing is said of them.
@@ -471,7 +472,7 @@ fn always_of<'a>(module_name: &'a str, given: &GivenWords<'a>) -> Option<Command
     Some(Command::ExplainAlways(AlwaysCommand { calls, name }))
 }
 
-/// What is to be shown of a module alone, or with calls.
+/// What is to be shown of a module alone or of a fault, or of a module with calls.
 fn explain_calls_asked<'a>(module_name: &'a str, given: &GivenWords<'a>) -> Option<Command<'a>>
     ensures { option_map request_of result ≡ asked_by explain_calls_forms module_name.entry.now (given_by given.now) }
 {
@@ -523,12 +524,26 @@ fn explain_calls_asked<'a>(module_name: &'a str, given: &GivenWords<'a>) -> Opti
             Part::From,
         ],
     ) {
-        return Some(Command::Explain {
-            module_name,
-            budget: turns_of(given),
-        });
+        return Some(explain_alone(module_name, given.budget));
     }
     None
+}
+
+/// What is to be shown of one name, with a budget or without: of a fault where it stands alone and is the name of one, else of a module.
+fn explain_alone<'a>(name: &'a str, budget: Option<u32>) -> Command<'a>
+    ensures { request_of result ≡ explain_alone name.entry.now budget }
+{
+    match budget {
+        Some(budget) => Command::Explain {
+            module_name: name,
+            budget,
+        },
+        None if names_fault(name) => Command::ExplainFault { name },
+        None => Command::Explain {
+            module_name: name,
+            budget: DEFAULT_BUDGET,
+        },
+    }
 }
 
 /// What is to be told of own steps.

@@ -78,6 +78,10 @@ pub enum Command<'a> {
         module_name: &'a str,
         budget: u32,
     },
+    /// `explain FAULT`: what a fault is, by its name.
+    ExplainFault {
+        name: &'a str,
+    },
     /// `explain MODULE SCRIPT -b BUDGET --from RECORD`: what is wrong with a module and a script, shown to people.
     ExplainCalls(CallsCommand<'a>),
     /// `explain MODULE SCRIPT -b BUDGET --from RECORD --traps`: where the calls of a script trap, shown to people.

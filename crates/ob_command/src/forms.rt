@@ -25,6 +25,7 @@ For more information, try '--help'.
 const UNCLEAR_EXPLAIN: &str = "\
 error: these words are in no form of explain, which are
   obl0 explain MODULE
+  obl0 explain FAULT
   obl0 explain MODULE SCRIPT [-b BUDGET] [--from RECORD] [--traps]
   obl0 explain MODULE SCRIPT SCHEDULE -n N [-b BUDGET] [--from RECORD]
   obl0 explain MODULE SCRIPT -n N --always NAME [-b BUDGET] [--from RECORD]

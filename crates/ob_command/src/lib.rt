@@ -4,6 +4,8 @@
 mod asked;
 mod call_range;
 pub mod command;
+pub mod fault_names;
+mod faults;
 mod forms;
 mod given;
 mod help;

@@ -1,10 +1,10 @@
 -- What each form of a command asks for.
-use Rattle.std.proofs.Common.{◌≡◌, ◌∙◌, ◌||◌, ◌&&◌, ◌⊎◌, inl, inr, ℕ, refl, sym, ap, ap₂, not, List, [], ◌∷◌, find, codes, true, false, Bool, if◌then◌else◌, Option, Some, None, is_some, option_and_then, option_map, unwrap_or}
+use Rattle.std.proofs.Common.{◌≡◌, ◌∙◌, ◌||◌, ◌&&◌, ◌⊎◌, inl, inr, ℕ, refl, sym, ap, ap₂, tt, not, List, [], ◌∷◌, find, codes, true, false, Bool, if◌then◌else◌, Option, Some, None, is_some, option_and_then, option_map, unwrap_or}
 use Rattle.std.specs.Option.{option_map_or}
 use Rattle.std.specs.Str.{bytes_eq}
 use Rattle.clap.specs.Walk.{Text}
-use Rattle.ob_command.specs.CommandLine.{Bound, CallsRequest, ChanceRequest, Draw, DrawHistory, DrawRecord, Explain, ExplainAlways, ExplainCalls, ExplainHistory, ExplainRecord, ExplainRun, ExplainTraps, Given, Live, Order, Outcomes, OutcomesRequest, Request, Run, RunByChance, RunFinished, RunRequest, RunSteps, RunTree, SeenRequest, Seq, Serve, State, Unclear, are_reached, are_seen, asked, budget_number, default_budget, default_length, default_most, default_most_reached, is_length, is_most, is_place, is_seen_budget, most_mistake, number, order_by, outcomes_by, parts_mistake, place_mistake, product_by, range_by, run_product, seed_number, seen_budget_mistake, whole_mistake}
-use Rattle.ob_command_laws.specs.PlainForms.{AreInRange, ArePlain, Argument, AsRecord, BySeed, ByTree, Chosen, Count, Finishing, Always, WithState, WithTurns, AsWhole, Has, IsLength, IsMost, IsPlace, IsSeenBudget, Lacks, ModuleAsksFor, Most, NamesBesideWhole, OfLength, OfTraps, Range, RunAsksFor, SaysSearch, ScriptAsksFor, ScriptSays, Seen, Start, Told, Turns, WithSteps, always_with, argument_in, bound_options, budget_in, calls_with, chance_with, count_in, draw_options, explain_options, given_in, given_with_history, id_of, is_chosen, length_in, live_options, most_in, order_options, order_with, outcomes_options, outcomes_with, product_in, run_options, seed_in, seen_with, seq_options, seq_with, serve_options, state_options, text_of, turns_in, value_in}
+use Rattle.ob_command.specs.CommandLine.{Bound, CallsRequest, ChanceRequest, Draw, DrawHistory, DrawRecord, Explain, ExplainAlways, ExplainCalls, ExplainFault, ExplainHistory, ExplainRecord, ExplainRun, ExplainTraps, Given, Live, Order, Outcomes, OutcomesRequest, Request, Run, RunByChance, RunFinished, RunRequest, RunSteps, RunTree, SeenRequest, Seq, Serve, State, Unclear, are_reached, are_seen, asked, budget_number, default_budget, default_length, default_most, default_most_reached, explain_alone, is_length, is_most, is_place, is_option, is_seen_budget, most_mistake, names_fault, number, order_by, outcomes_by, parts_mistake, place_mistake, product_by, range_by, request, run_product, seed_number, seen_budget_mistake, whole_mistake}
+use Rattle.ob_command_laws.specs.PlainForms.{AreInRange, ArePlain, Argument, AsRecord, BySeed, ByTree, Chosen, Count, Finishing, Always, WithState, WithTurns, AsWhole, Has, IsLength, IsMost, IsPlace, IsSeenBudget, Lacks, ModuleAsksFor, Most, NamesBesideWhole, OfLength, OfTraps, OtherAsksFor, Range, RunAsksFor, SaysSearch, ScriptAsksFor, ScriptSays, Seen, Start, Told, Turns, WithSteps, always_with, argument_in, bound_options, budget_in, calls_with, chance_with, count_in, draw_options, explain_options, given_in, given_with_history, id_of, is_chosen, length_in, live_options, most_in, order_options, order_with, outcomes_options, outcomes_with, product_in, run_options, seed_in, seen_with, seq_options, seq_with, serve_options, state_options, text_of, turns_in, value_in, words_of}
 use Rattle.ob_command.specs.declared.command.CallNumbers.{CallNumbers}
 use Rattle.ob_command.specs.declared.command.OrderProduct.{OrderProduct}
 use Rattle.ob_command.specs.declared.command.RunProduct.{RunProduct}
@@ -135,8 +135,7 @@ module _ (m s d : Text) (r h f c a : Option Text) (o t q g : Option ℕ) (w x y 
   record_drawn calls is_c is_o is_t is_q is_f =
       rw (is_o, is_t, is_q, is_f) (ap (λ u. unwrap_or (option_and_then (λ calls. Some (DrawRecord m s calls)) u) Unclear) is_c)
 
-  explained : r ≡ None → h ≡ None → a ≡ None → f ≡ None → o ≡ None → z ≡ false
-      → asks (codes "explain") m alone ≡ Explain m (unwrap_or t default_budget)
+  explained : r ≡ None → h ≡ None → a ≡ None → f ≡ None → o ≡ None → z ≡ false → asks (codes "explain") m alone ≡ explain_alone m t
   explained is_r is_h is_a is_f is_o is_z = rw (is_r, is_h, is_a, is_f, is_o, is_z) refl
 
   record_explained : (q : Text) → r ≡ Some q → h ≡ None → f ≡ None → o ≡ None → t ≡ None → z ≡ false → a ≡ None
@@ -616,12 +615,36 @@ draw_history_form calls m h chosen no_m no_h plain holds =
     holds.0 (search_said chosen plain holds.3) holds.1 holds.2 (no_count chosen holds.4.0) (no_value (codes "FROM") chosen holds.4.1.0)
     (no_argument chosen (never_parted chosen plain))
 
-pub explain_form : ModuleAsksFor (codes "explain") explain_options (Lacks (codes "RECORD" ∷ codes "HISTORY" ∷ codes "NAME" ∷ codes "FROM" ∷ codes "N" ∷ codes "traps" ∷ []))
-    (λ m chosen. Explain m (turns_in chosen))
-explain_form m chosen no_m plain lacks =
+-- what one name asks for
+alone_asks : (m : Text) (chosen : List Chosen) → is_option m ≡ false → ArePlain explain_options chosen
+    → Lacks (codes "RECORD" ∷ codes "HISTORY" ∷ codes "NAME" ∷ codes "FROM" ∷ codes "N" ∷ codes "traps" ∷ []) chosen
+    → request (codes "explain" ∷ m ∷ words_of chosen) ≡ explain_alone m (budget_in chosen)
+alone_asks m chosen no_m plain lacks =
     explain_module_asks m chosen no_m plain (not_needed chosen)
     ∙ explained m [] [] (told chosen) (seen chosen) (begun chosen) (shown chosen) (named chosen) (count_in chosen) (spent chosen) (looked chosen) (parted chosen) (recorded chosen) (treed chosen) (stepped chosen) (trapped chosen) (seeded chosen) (lengthened chosen) (ended chosen) (stated chosen) (timed chosen) (wholly chosen) (no_value (codes "RECORD") chosen lacks.0) (no_value (codes "HISTORY") chosen lacks.1.0)
     (no_value (codes "NAME") chosen lacks.1.1.0) (no_value (codes "FROM") chosen lacks.1.1.1.0) (no_count chosen lacks.1.1.1.1.0) lacks.1.1.1.1.1.0
+
+-- of a name that is that of no fault, or with a budget beside it, a module is explained
+other_name : (m : Text) (t : Option ℕ) → names_fault m ≡ false → explain_alone m t ≡ Explain m (unwrap_or t default_budget)
+other_name m None no = rw no refl
+other_name m (Some b) no = refl
+
+beside_budget : (m : Text) (t : Option ℕ) → is_some t ≡ true → explain_alone m t ≡ Explain m (unwrap_or t default_budget)
+beside_budget m None is = cc
+beside_budget m (Some b) is = refl
+
+pub explain_form : OtherAsksFor (codes "explain") explain_options (Lacks (codes "RECORD" ∷ codes "HISTORY" ∷ codes "NAME" ∷ codes "FROM" ∷ codes "N" ∷ codes "traps" ∷ []))
+    (λ m chosen. Explain m (turns_in chosen))
+explain_form m chosen no_m no_fault plain lacks = alone_asks m chosen no_m plain lacks ∙ other_name m (budget_in chosen) no_fault
+
+pub explain_budget_form : ModuleAsksFor (codes "explain") explain_options
+    (λ chosen. Has (codes "BUDGET") chosen × Lacks (codes "RECORD" ∷ codes "HISTORY" ∷ codes "NAME" ∷ codes "FROM" ∷ codes "N" ∷ codes "traps" ∷ []) chosen)
+    (λ m chosen. Explain m (turns_in chosen))
+explain_budget_form m chosen no_m plain holds =
+    alone_asks m chosen no_m plain holds.1 ∙ beside_budget m (budget_in chosen) (plain_turns explain_options chosen plain holds.0)
+
+pub explain_fault_form : (m : Text) → is_option m ≡ false → names_fault m ≡ true → request (codes "explain" ∷ m ∷ []) ≡ ExplainFault m
+explain_fault_form m no_m is = alone_asks m [] no_m tt (refl, (refl, (refl, (refl, (refl, (refl, tt)))))) ∙ rw is refl
 
 pub explain_record_form : (r : Text) → ModuleAsksFor (codes "explain") explain_options
     (λ chosen. (value_in (codes "RECORD") chosen ≡ Some r) × Lacks (codes "HISTORY" ∷ codes "FROM" ∷ codes "N" ∷ codes "BUDGET" ∷ codes "traps" ∷ codes "NAME" ∷ []) chosen)

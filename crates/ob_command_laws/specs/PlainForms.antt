@@ -3,7 +3,7 @@ use Rattle.std.specs.Prelude.{◌≡◌, ◌⊎◌, ℕ, Bool, true, false, not,
 use Rattle.std.specs.List.{list_any}
 use Rattle.std.specs.Option.{option_map_or}
 use Rattle.std.specs.Str.{bytes_eq}
-use Rattle.ob_command.specs.CommandLine.{AlwaysRequest, CallsRequest, ChanceRequest, Given, Help, OrderRequest, OutcomesRequest, Request, RunRequest, SeenRequest, SeqRequest, Text, Unclear, Version, asked, budget_number, calls_in, default_budget, default_length, default_most, default_most_reached, form_mistake_of, is_length, is_most, is_option, is_place, is_seen_budget, number, request, run_product, seed_number}
+use Rattle.ob_command.specs.CommandLine.{AlwaysRequest, CallsRequest, ChanceRequest, Given, Help, OrderRequest, OutcomesRequest, Request, RunRequest, SeenRequest, SeqRequest, Text, Unclear, Version, asked, budget_number, calls_in, default_budget, default_length, default_most, default_most_reached, form_mistake_of, is_length, is_most, is_option, is_place, is_seen_budget, names_fault, number, request, run_product, seed_number}
 use Rattle.ob_command.specs.declared.command.CallNumbers.{CallNumbers}
 use Rattle.ob_command.specs.declared.command.OrderProduct.{OrderProduct}
 use Rattle.ob_command.specs.declared.command.RunProduct.{RunProduct}
@@ -321,6 +321,11 @@ chance_with m s processes seed chosen = record {
 abbrev pub ModuleAsksFor : (command : Text) (names : List Text) (Holds : List Chosen → Type 0) (asks : (m : Text) → List Chosen → Request) → Type 0
 ModuleAsksFor command names Holds asks = (m : Text) (chosen : List Chosen) → is_option m ≡ false → ArePlain names chosen → Holds chosen
     → request (command ∷ m ∷ words_of chosen) ≡ asks m chosen
+
+-- the same of a name that is that of no fault
+abbrev pub OtherAsksFor : (command : Text) (names : List Text) (Holds : List Chosen → Type 0) (asks : (m : Text) → List Chosen → Request) → Type 0
+OtherAsksFor command names Holds asks = (m : Text) (chosen : List Chosen) → is_option m ≡ false → names_fault m ≡ false → ArePlain names chosen
+    → Holds chosen → request (command ∷ m ∷ words_of chosen) ≡ asks m chosen
 
 abbrev pub ScriptAsksFor : (command : Text) (names : List Text) (Holds : List Chosen → Type 0) (asks : (m s : Text) → List Chosen → Request) → Type 0
 ScriptAsksFor command names Holds asks = (m s : Text) (chosen : List Chosen) → is_option m ≡ false → is_option s ≡ false → ArePlain names chosen

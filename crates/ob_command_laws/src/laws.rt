@@ -3,13 +3,13 @@
 ghost use Rattle.std.specs.Prelude.{◌≡◌, ◌⊎◌, ℕ, List, Option, Some, [], ◌∷◌, false, true, All, codes, is_some, unwrap_or};
 ghost use Rattle.clap.specs.Words.{fault_of};
 ghost use Rattle.ob_command_line.specs.ClapCommand.{obl0_app};
-ghost use Rattle.ob_command.specs.CommandLine.{Bound, Check, Draw, DrawHistory, DrawRecord, Explain, ExplainAlways, ExplainCalls};
+ghost use Rattle.ob_command.specs.CommandLine.{Bound, Check, Draw, DrawHistory, DrawRecord, Explain, ExplainAlways, ExplainCalls, ExplainFault};
 ghost use Rattle.ob_command.specs.CommandLine.{ExplainHistory, ExplainRecord, ExplainRun, ExplainTraps, Help, Listing, Live, Order, Outcomes, Run, RunByChance, RunFinished, RunSteps, RunTree, Seq, State};
 ghost use Rattle.ob_command.specs.CommandLine.{Serve, Text, Unclear, Verify};
-ghost use Rattle.ob_command.specs.CommandLine.{Version, asks_command, command_names, form_mistake_of, is_option, most_mistake, parts_mistake};
+ghost use Rattle.ob_command.specs.CommandLine.{Version, asks_command, command_names, form_mistake_of, is_option, most_mistake, names_fault, parts_mistake};
 ghost use Rattle.ob_command.specs.CommandLine.{place_mistake, range_by, request, seen_budget_mistake, whole_mistake};
 ghost use Rattle.ob_command_laws.specs.PlainForms.{AreInRange, AsksWithHistory, AsksWithModule, AsksWithSchedule, AsksWithScript, Has, IsHelpAsked};
-ghost use Rattle.ob_command_laws.specs.PlainForms.{IsLength, IsMost, IsPlace, IsSeenBudget, IsVersionAsked, Lacks, ModuleAsksFor, NamesBesideWhole};
+ghost use Rattle.ob_command_laws.specs.PlainForms.{IsLength, IsMost, IsPlace, IsSeenBudget, IsVersionAsked, Lacks, ModuleAsksFor, NamesBesideWhole, OtherAsksFor};
 ghost use Rattle.ob_command_laws.specs.PlainForms.{RunAsksFor, SaysSearch, ScriptAsksFor};
 ghost use Rattle.ob_command_laws.specs.PlainForms.{ScriptSays, always_with, argument_in, bound_options, calls_with, chance_with, count_in, draw_options};
 ghost use Rattle.ob_command_laws.specs.PlainForms.{explain_options, live_options, order_options, order_with, outcomes_options, outcomes_with, product_in, run_options};
@@ -120,14 +120,18 @@ pub fn order_is_asked()
         (λ chosen. AreInRange chosen × Has (codes "record") chosen × Has (codes "BY") chosen) parts_mistake }
 {}
 
-/// `explain` and up to three names that are no options, and its options in any order.
+/// `explain` and up to three names that are no options, and its options in any order. Alone the name of a fault is no file's.
 pub fn explain_is_asked()
     ensures table_of_one { AsksWithModule (codes "explain") false explain_options }
     ensures table_of_two { AsksWithScript (codes "explain") false explain_options }
     ensures table { AsksWithSchedule (codes "explain") false explain_options }
-    ensures module { ModuleAsksFor (codes "explain") explain_options
+    ensures module { OtherAsksFor (codes "explain") explain_options
         (Lacks (codes "RECORD" ∷ codes "HISTORY" ∷ codes "NAME" ∷ codes "FROM" ∷ codes "N" ∷ codes "traps" ∷ []))
         (λ m chosen. Explain m (turns_in chosen)) }
+    ensures budget { ModuleAsksFor (codes "explain") explain_options
+        (λ chosen. Has (codes "BUDGET") chosen × Lacks (codes "RECORD" ∷ codes "HISTORY" ∷ codes "NAME" ∷ codes "FROM" ∷ codes "N" ∷ codes "traps" ∷ []) chosen)
+        (λ m chosen. Explain m (turns_in chosen)) }
+    ensures fault { (m : Text) → is_option m ≡ false → names_fault m ≡ true → request (codes "explain" ∷ m ∷ []) ≡ ExplainFault m }
     ensures record { (r : Text) → ModuleAsksFor (codes "explain") explain_options
         (λ chosen. (value_in (codes "RECORD") chosen ≡ Some r)
         × Lacks (codes "HISTORY" ∷ codes "FROM" ∷ codes "N" ∷ codes "BUDGET" ∷ codes "traps" ∷ codes "NAME" ∷ []) chosen)

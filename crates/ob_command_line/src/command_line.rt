@@ -46,7 +46,7 @@ const ABOUT_ORDER: &str = "Tells whether a history of calls has a legal order, a
 
 const ABOUT_EXPLAIN: &str =
     "Shows what is wrong with a module, with a module and a script, with a run, with a record or with a \
-    history, where calls trap, or how a run comes to what should never be";
+    history, where calls trap, or how a run comes to what should never be; or tells what a fault is, such as H4";
 
 const ABOUT_BOUND: &str =
     "Prints how many own steps a call takes at most, and the numbers behind it";
@@ -83,6 +83,7 @@ const USAGE_ORDER: &str = "obl0 order MODULE HISTORY [-b BUDGET] [--most K] [--r
 
 const USAGE_EXPLAIN: &str = "\
 obl0 explain MODULE
+       obl0 explain FAULT
        obl0 explain MODULE SCRIPT [-b BUDGET] [--from RECORD] [--traps]
        obl0 explain MODULE SCRIPT SCHEDULE -n N [-b BUDGET] [--from RECORD]
        obl0 explain MODULE SCRIPT -n N --always NAME [-b BUDGET] [--from RECORD]
@@ -97,7 +98,7 @@ To begin with: `obl0 seq examples/counter.mod examples/counter.calls`.
 `help COMMAND` prints the help of a command, as `COMMAND --help` does.
 `version`, `--version` and `-V` print the version.
 `-` in the place of a file's name is standard input.
-docs/FAULTS.md lists the faults, such as S3 or O2.";
+`explain S3` tells what the fault S3 is; docs/FAULTS.md has all of them.";
 
 /// The command line as `clap` reads it.
 pub fn command_line<'a>(alloc: Global) -> Result<clap::Command<'a>, AllocError>

@@ -2,6 +2,7 @@
 
 use ob_evidence::site::{Site, is_kind};
 use ob_explain_names::actuals::ends_call;
+use ob_explain_names::declarations::in_record;
 use ob_explain_names::open::open_construct;
 use ob_scan::{Kind, Token};
 
@@ -15,6 +16,24 @@ pub(crate) fn declares(site: &Site<'_, '_>, tokens: &[Token], word: &[u8]) -> bo
         is_behind = token.kind == Kind::Procedure;
     }
     false
+}
+
+/// Whether a record before the place has a field of this name.
+pub(crate) fn is_field(site: &Site<'_, '_>, word: &[u8]) -> bool {
+    let mut is_listed = false;
+    for (count, token) in site.before.iter().enumerate() {
+        if is_listed && site.word_of(Some(*token)) == word && is_in_record(site.before, count) {
+            return true;
+        }
+        is_listed = matches!(token.kind, Kind::Colon | Kind::Comma);
+    }
+    false
+}
+
+/// Whether the token before which so many of these stand, the last one first, stands in a record.
+fn is_in_record(before: &[Token], count: usize) -> bool {
+    let (_, rest) = before.split_at(count.min(before.len()));
+    in_record(rest)
 }
 
 /// Whether a `:` or a `,` stands behind this name.

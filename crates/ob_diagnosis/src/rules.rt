@@ -5,7 +5,7 @@ ghost use Rattle.ob_diagnosis.specs.Remarks.{Tells};
 ghost use Rattle.ob_evidence.specs.Sites.{scene_of};
 ghost use Rattle.ob_messages.specs.Remarks.{remark_of};
 
-use crate::calls::declares;
+use crate::calls::{declares, is_field};
 use crate::foreign::{is_number_type, is_small_keyword};
 use crate::table_rows::{Seen, nothing, of_facts, told};
 use ob_evidence::facts::facts_of;
@@ -38,6 +38,7 @@ pub(crate) fn unknown_remark(alloc: Global, site: &Site<'_, '_>) -> Result<Remar
         &[
             (is_near(near), Fact::Near),
             (declares(site, site.behind, word), Fact::FurtherDown),
+            (is_field(site, word), Fact::Field),
             (is_number_type(word), Fact::NumberType),
             (is_small_keyword(word), Fact::SmallKeyword),
         ],

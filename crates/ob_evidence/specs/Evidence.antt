@@ -47,12 +47,13 @@ pub record IsOtherName (s : Scene) (facts : List Fact) (e : Evidence) : Type 0 w
 -- C1: the name is the nearest one. The other facts are hints on the word, of which nothing is promised.
 pub record IsUnknownName (s : Scene) (facts : List Fact) (e : Evidence) : Type 0 where
   pub further_down : Bool
+  pub field : Bool
   pub number_type : Bool
   pub small_keyword : Bool
   pub name : e.name ≡ bytes_of s.text (near_name s).named
   pub noted : facts ≡ facts_in (
-      (is_near (near_name s), Facts.Near) ∷ (further_down, Facts.FurtherDown) ∷ (number_type, Facts.NumberType)
-      ∷ (small_keyword, Facts.SmallKeyword) ∷ [])
+      (is_near (near_name s), Facts.Near) ∷ (further_down, Facts.FurtherDown) ∷ (field, Facts.Field)
+      ∷ (number_type, Facts.NumberType) ∷ (small_keyword, Facts.SmallKeyword) ∷ [])
 
 -- C2: the line is that of the declaration before.
 pub record IsDeclaredTwice (s : Scene) (facts : List Fact) (e : Evidence) : Type 0 where

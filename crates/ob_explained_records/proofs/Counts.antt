@@ -8,8 +8,9 @@ use Rattle.std.proofs.lemmas.Bool.Decides.{eqb_tells}
 use Rattle.ob_mean.proofs.Runs.{drop_here}
 use Rattle.ob_object_calls.specs.CallLines.{count_of}
 use Rattle.ob_traps.specs.Site.{Site}
+use Rattle.ob_explained_records.specs.declared.spots.Spot.{Spot}
 use Rattle.ob_explained_records.specs.declared.trap_lines.CallName.{CallName}
-use Rattle.ob_explained_records.specs.TrapLines.{Setting, call_name, site_lines, traps_lines}
+use Rattle.ob_explained_records.specs.TrapLines.{Setting, call_name, calls_there, count_lines, counted_lines, if_first, lines_from, site_lines, spot_of}
 
 -- the call of this process, number and line
 abbrev pub the_call : (process number line : ℕ) → CallName
@@ -72,21 +73,23 @@ module _ (processes : ℕ) (callers : List ℕ) (n : ℕ) (made : List ℕ) (so_
       let count : number ≡ suc (count_of p (take n callers)) = numbered ∙ ap (λ k. k + 1) (so_far.counted p below) ∙ add-one (count_of p (take n callers)) in
       ap₂ (the_call p) count lined ∙ ap (λ q. the_call q (suc (count_of q (take n callers))) (get_or lines n 0)) at
 
-module _ (setting : Setting) (callers lines : List ℕ) (all : List (Option Site)) (made : List ℕ) where
+module _ (setting : Setting) (callers lines : List ℕ) (all : List (Option Site)) (spots : List (Option Spot)) (made : List ℕ) where
   -- behind the call at a position
-  pub told_next : (k : ℕ) (call : CallName) (site : Option Site) (text : List ℕ) → k < length all → site ≡ get_or all k site → call ≡ call_name callers lines k →
-      text ++ traps_lines setting callers lines k (drop k all) ≡ made →
-      (text ++ site_lines setting call site) ++ traps_lines setting callers lines (k + 1) (drop (k + 1) all) ≡ made
-  told_next k call site text below here is before =
+  pub told_next : (k : ℕ) (call : CallName) (site : Option Site) (count : ℕ) (text : List ℕ) → k < length all → site ≡ get_or all k site → call ≡ call_name callers lines k →
+      count ≡ calls_there spots k (spot_of setting.tree site) → text ++ lines_from setting callers lines spots k (drop k all) ≡ made →
+      ((text ++ site_lines setting call (if_first count site)) ++ count_lines count) ++ lines_from setting callers lines spots (k + 1) (drop (k + 1) all) ≡ made
+  told_next k call site count text below here is counted before =
       let rest = drop (k + 1) all in
       let sites : drop k all ≡ site ∷ rest = drop_here all k site below ∙ ap (λ s. s ∷ rest) (sym here) in
-      append_assoc text (site_lines setting call site) (traps_lines setting callers lines (k + 1) rest)
-      ∙ ap (λ n. text ++ (site_lines setting call site ++ traps_lines setting callers lines n rest)) (add-one k)
-      ∙ ap (λ c. text ++ (site_lines setting c site ++ traps_lines setting callers lines (suc k) rest)) is
-      ∙ sym (ap (λ ss. text ++ traps_lines setting callers lines k ss) sites)
+      ap (λ t. t ++ lines_from setting callers lines spots (k + 1) rest) (append_assoc text (site_lines setting call (if_first count site)) (count_lines count))
+      ∙ append_assoc text (counted_lines setting count call site) (lines_from setting callers lines spots (k + 1) rest)
+      ∙ ap (λ n. text ++ (counted_lines setting count call site ++ lines_from setting callers lines spots n rest)) (add-one k)
+      ∙ ap (λ n. text ++ (counted_lines setting n call site ++ lines_from setting callers lines spots (suc k) rest)) counted
+      ∙ ap (λ c. text ++ (counted_lines setting (calls_there spots k (spot_of setting.tree site)) c site ++ lines_from setting callers lines spots (suc k) rest)) is
+      ∙ sym (ap (λ ss. text ++ lines_from setting callers lines spots k ss) sites)
       ∙ before
 
   -- behind all calls
-  pub told_all : (k : ℕ) (text : List ℕ) → length all ≤ k → text ++ traps_lines setting callers lines k (drop k all) ≡ made → text ≡ made
+  pub told_all : (k : ℕ) (text : List ℕ) → length all ≤ k → text ++ lines_from setting callers lines spots k (drop k all) ≡ made → text ≡ made
   told_all k text beyond before =
-      sym (append-nil text) ∙ sym (ap (λ ss. text ++ traps_lines setting callers lines k ss) (drop_all k all beyond)) ∙ before
+      sym (append-nil text) ∙ sym (ap (λ ss. text ++ lines_from setting callers lines spots k ss) (drop_all k all beyond)) ∙ before

@@ -84,18 +84,18 @@ module _ (text script : Source) (object : ObjectParts) (xs : List Declared.Scrip
   pub lines_of_calls : (tree : Tree.Module) (program : Program) (budget : ℕ) (opening : Activation) (callers numbers : List ℕ) (asked : List ObjectCall) (sites : List (Option Site)) (told : List ℕ) →
       tree ≡ object.tree → program ≡ object.program → budget ≡ object.engine.budget → opening ≡ object.opening → callers ≡ map (λ c. c.process) xs →
       asked ≡ map (λ c. object_call (script_call_of c)) xs → numbers ≡ call_lines script.text → sites ≡ sites_from program budget opening asked →
-      told ≡ traps_lines (setting_with tree budget) callers numbers 0 sites → or_none told ≡ traps_text text script object (map script_call_of xs)
+      told ≡ traps_lines (setting_with tree budget) callers numbers sites → or_none told ≡ traps_text text script object (map script_call_of xs)
   lines_of_calls tree program budget opening callers numbers asked sites told of_tree of_program of_budget of_opening of_callers of_asked of_numbers of_sites is =
       let b = object.engine.budget in
       let found = of_sites ∙ ap (λ p. sites_from p budget opening asked) of_program ∙ ap (λ (k : ℕ). sites_from object.program k opening asked) of_budget
       ∙ ap (λ s. sites_from object.program b s asked) of_opening ∙ ap (sites_from object.program b object.opening) (of_asked ∙ sym (asked_in xs)) in
       ap or_none
       (is
-      ∙ ap (λ t. traps_lines (setting_with t budget) callers numbers 0 sites) of_tree
-      ∙ ap (λ (k : ℕ). traps_lines (setting_with object.tree k) callers numbers 0 sites) of_budget
-      ∙ ap (λ ps. traps_lines (setting_with object.tree b) ps numbers 0 sites) (of_callers ∙ sym (processes_in xs))
-      ∙ ap (λ ns. traps_lines (setting_with object.tree b) (map (λ c. c.process) (map script_call_of xs)) ns 0 sites) of_numbers
-      ∙ ap (traps_lines (setting_with object.tree b) (map (λ c. c.process) (map script_call_of xs)) (call_lines script.text) 0) found)
+      ∙ ap (λ t. traps_lines (setting_with t budget) callers numbers sites) of_tree
+      ∙ ap (λ (k : ℕ). traps_lines (setting_with object.tree k) callers numbers sites) of_budget
+      ∙ ap (λ ps. traps_lines (setting_with object.tree b) ps numbers sites) (of_callers ∙ sym (processes_in xs))
+      ∙ ap (λ ns. traps_lines (setting_with object.tree b) (map (λ c. c.process) (map script_call_of xs)) ns sites) of_numbers
+      ∙ ap (traps_lines (setting_with object.tree b) (map (λ c. c.process) (map script_call_of xs)) (call_lines script.text)) found)
 
 -- there are as many sites as calls
 pub sites_long : {A : Type 0} (view : A → Option Site) (found : List A) (program : Program) (budget : ℕ) (opening : Activation) (asked : List ObjectCall) (xs : List Declared.ScriptCall) →

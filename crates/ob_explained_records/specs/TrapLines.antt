@@ -1,5 +1,6 @@
 -- The lines that tell of the traps of calls.
-use Rattle.std.specs.Prelude.{ℕ, suc, List, [], ◌∷◌, ◌++◌, Option, Some, None, codes, decimal, slice_index, take}
+use Rattle.std.specs.Prelude.{ℕ, zero, suc, ◌==◌, ◌&&◌, nat_lt, Bool, false, List, [], ◌∷◌, ◌++◌, Option, Some, None, codes, count_by, decimal, map, option_map, slice_index, take, if◌then◌else◌}
+use Rattle.std.specs.List.{list_any}
 use Rattle.ob_messages.specs.Explanations.{explanation}
 use Rattle.ob_explained.specs.Sources.{Source, source_of}
 use Rattle.ob_grammar.specs.Tree
@@ -7,6 +8,7 @@ use Rattle.ob_grammar.specs.View.{module_of}
 use Rattle.ob_object_calls.specs.CallLines.{count_of}
 use Rattle.ob_traps.specs.Places.{place_of}
 use Rattle.ob_traps.specs.Site.{Site}
+use Rattle.ob_explained_records.specs.declared.spots.Spot.{Spot}
 use Rattle.ob_explained_records.specs.declared.trap_lines.CallName.{CallName}
 use Rattle.ob_explained_records.specs.declared.trap_lines.Setting as Rust
 use Rattle.ob_explained.specs.TrapSentences.{cause_sentence}
@@ -57,10 +59,48 @@ site_place_lines setting site = place_lines setting site (place_of setting.tree 
 abbrev pub trap_lines : Setting → CallName → Site → List ℕ
 trap_lines setting call site = heading setting.script_name call site.number ++ site_place_lines setting site
 
+-- how many calls trap at the place, where there are more than this one
+unfoldable pub count_text : (count : ℕ) → List ℕ
+count_text count = decimal count ++ codes " calls trap here, of which this is the first\n"
+
+abbrev pub count_lines : (count : ℕ) → List ℕ
+count_lines count = if nat_lt 1 count then count_text count else []
+
 -- of a call that may trap
 abbrev pub site_lines : Setting → CallName → Option Site → List ℕ
 site_lines setting call None = []
 site_lines setting call (Some site) = trap_lines setting call site
+
+-- ---- which calls trap at one place
+
+-- the place in the text at which a call traps, if it traps
+abbrev pub spot_at : Site → Option ℕ → Option Spot
+spot_at site place = option_map (λ p. record { number = site.number; place = p }) place
+
+abbrev pub spot_of : Tree.Module → Option Site → Option Spot
+spot_of tree None = None
+spot_of tree (Some site) = spot_at site (place_of tree site)
+
+-- a call traps at this place, by the trap of this number
+abbrev pub is_there : Spot → Option Spot → Bool
+is_there spot None = false
+is_there spot (Some other) = (spot.number == other.number) && (spot.place == other.place)
+
+-- how many of the calls trap where the one at a position does, if none before it does; else 0, and so where it does not trap
+abbrev pub calls_there : (spots : List (Option Spot)) → (k : ℕ) → Option Spot → ℕ
+calls_there spots k None = 0
+calls_there spots k (Some spot) = if list_any (is_there spot) (take k spots) then 0 else count_by (is_there spot) spots
+
+-- the trap that is told where so many calls trap at its place, of which its call is the first; none where it is another one
+abbrev pub if_first : (count : ℕ) → Option Site → Option Site
+if_first zero site = None
+if_first (suc others) site = site
+
+-- what is told of it
+abbrev pub counted_lines : Setting → (count : ℕ) → CallName → Option Site → List ℕ
+counted_lines setting count call site = site_lines setting call (if_first count site) ++ count_lines count
+
+-- ---- the calls in turn
 
 -- The call at a position, of calls by these processes in these lines: its number counts the calls of its process from 1.
 abbrev pub call_name : (processes lines : List ℕ) → ℕ → CallName
@@ -70,8 +110,14 @@ call_name processes lines k = record {
   line = slice_index lines k;
 }
 
--- of these calls from a position on, where their traps come from these sites
-abbrev pub traps_lines : Setting → (processes lines : List ℕ) → ℕ → List (Option Site) → List ℕ
-traps_lines setting processes lines k [] = []
-traps_lines setting processes lines k (site ∷ sites) =
-    site_lines setting (call_name processes lines k) site ++ traps_lines setting processes lines (suc k) sites
+-- Of these calls from a position on, where their traps come from these sites. Of calls that trap at one place the first is told, with how
+-- many there are.
+abbrev pub lines_from : Setting → (processes lines : List ℕ) → (spots : List (Option Spot)) → ℕ → List (Option Site) → List ℕ
+lines_from setting processes lines spots k [] = []
+lines_from setting processes lines spots k (site ∷ sites) =
+    counted_lines setting (calls_there spots k (spot_of setting.tree site)) (call_name processes lines k) site
+    ++ lines_from setting processes lines spots (suc k) sites
+
+-- of all of them
+abbrev pub traps_lines : Setting → (processes lines : List ℕ) → List (Option Site) → List ℕ
+traps_lines setting processes lines sites = lines_from setting processes lines (map (spot_of setting.tree) sites) 0 sites

@@ -28,11 +28,12 @@ abbrev pub or_none : List ℕ → List ℕ
 or_none [] = codes "no call traps\n"
 or_none (b ∷ bytes) = b ∷ bytes
 
--- what is printed of the calls of a script on an object: the lines of each call that traps, in line order
+-- what is printed of the calls of a script on an object: the lines of each call that traps, in line order, but of those that trap at one
+-- place the first alone
 abbrev pub traps_text : (text script : Source) → ObjectParts → List ScriptCall → List ℕ
 traps_text text script object calls =
     or_none (traps_lines (record { object = text; tree = object.tree; script_name = script.name; budget = object.engine.budget })
-    (map (λ c. c.process) calls) (call_lines script.text) 0 (sites_of object calls))
+    (map (λ c. c.process) calls) (call_lines script.text) (sites_of object calls))
 
 -- the same of texts, an object and calls as the code has them
 abbrev pub told_of_calls : (text script : Rust.Source) → Object → List Declared.ScriptCall → List ℕ

@@ -15,6 +15,7 @@ pub mod order_remark;
 pub mod record;
 pub mod record_remark;
 mod reply_sentence;
+mod spots;
 mod trap_lines;
 pub mod traps;
 

@@ -1,10 +1,12 @@
 //! The lines that tell of the traps of calls.
 
 ghost use Rattle.std.specs.Prelude.{◌≡◌, ◌++◌, ◌<◌, All, IfOk, OnOk, length, map, option_map, string_bytes};
-ghost use Rattle.ob_explained_records.specs.TrapLines.{call_text, heading, line_text, setting_of, site_lines, site_place_lines, trap_text, traps_lines};
+ghost use Rattle.ob_explained_records.specs.TrapLines.{call_text, count_lines, count_text, heading, if_first, line_text, setting_of, site_lines};
+ghost use Rattle.ob_explained_records.specs.TrapLines.{site_place_lines, trap_text, traps_lines};
 ghost use Rattle.ob_traps.specs.Places.{place_of};
 ghost use Rattle.ob_traps.specs.Reaching.{site_of};
 
+use crate::spots::{calls_there, spot_of, spots_of};
 use ob_explained::Source;
 use ob_explained::cause::{Runner, cause_sentence};
 use ob_grammar::tree::ModuleTree;
@@ -34,7 +36,7 @@ pub(crate) struct CallName {
 }
 
 /// What is told of calls by these processes, which are below `processes`, in these lines of the script, whose traps come
-/// from these sites.
+/// from these sites: of those that trap at one place the first, and how many there are.
 pub(crate) fn traps_told(
     alloc: Global,
     setting: Setting<'_>,
@@ -46,8 +48,9 @@ pub(crate) fn traps_told(
     requires below { All (λ p. p < processes) callers.now }
     requires called { length callers.now ≡ length sites.now }
     requires lined { length lines.now ≡ length sites.now }
-    ensures { IfOk result (λ told. string_bytes told ≡ traps_lines (setting_of setting.entry) callers.now lines.now 0 (map (option_map site_of) sites.now)) }
+    ensures { IfOk result (λ told. string_bytes told ≡ traps_lines (setting_of setting.entry) callers.now lines.now (map (option_map site_of) sites.now)) }
 {
+    let spots = spots_of(alloc, setting.tree, sites)?;
     let mut told = String::new(alloc);
     let mut made = vec![in alloc; 0u64; processes]?;
     for (index, site) in sites.iter().enumerate() {
@@ -58,9 +61,18 @@ pub(crate) fn traps_told(
             number: made[process],
             line: lines[index],
         };
-        push_site(alloc, &mut told, setting, call, site)?;
+        let count = calls_there(&spots, index, spot_of(setting.tree, site));
+        push_site(alloc, &mut told, setting, call, if_first(count, site))?;
+        push_count(&mut told, count)?;
     }
     Ok(told)
+}
+
+/// The trap that is told where so many calls trap at its place, of which its call is the first; none where it is another one.
+fn if_first(count: usize, site: &Option<Site>) -> Option<&Site>
+    ensures { option_map (λ s. site_of s.now) result ≡ if_first count (option_map site_of site.now) }
+{
+    if count == 0 { None } else { site.as_ref() }
 }
 
 /// Appends what is told of a call, if it traps.
@@ -69,9 +81,9 @@ fn push_site(
     told: &mut String,
     setting: Setting<'_>,
     call: CallName,
-    site: &Option<Site>,
+    site: Option<&Site>,
 ) -> Result<(), AllocError>
-    ensures { OnOk result (string_bytes told.new ≡ string_bytes told.old ++ site_lines (setting_of setting.entry) call (option_map site_of site.now)) }
+    ensures { OnOk result (string_bytes told.new ≡ string_bytes told.old ++ site_lines (setting_of setting.entry) call (option_map (λ s. site_of s.now) site.entry)) }
 {
     match site {
         Some(site) => {
@@ -80,6 +92,26 @@ fn push_site(
         }
         None => Ok(()),
     }
+}
+
+/// Appends how many calls trap at a place, where there are several.
+fn push_count(told: &mut String, count: usize) -> Result<(), AllocError>
+    ensures { OnOk result (string_bytes told.new ≡ string_bytes told.old ++ count_lines count) }
+{
+    if count > 1 {
+        push_several(told, count)
+    } else {
+        Ok(())
+    }
+}
+
+/// Appends that so many calls trap at a place.
+#[tactic(auto, unfolding(crate::specs::TrapLines::count_text))]
+fn push_several(told: &mut String, count: usize) -> Result<(), AllocError>
+    ensures { OnOk result (string_bytes told.new ≡ string_bytes told.old ++ count_text count) }
+{
+    push_number(told, count)?;
+    told.push_str(" calls trap here, of which this is the first\n")
 }
 
 /// Appends which call it is, and the number of its trap.

@@ -18,6 +18,7 @@ use Rattle.ob_messages.specs.declared.table.RowOf.{RowOf}
 use Rattle.ob_messages.specs.declared.table.WhenOf.{WhenOf}
 use Rattle.ob_messages.specs.declared.table.WhenOf.TheVariants as when
 use Rattle.ob_messages.specs.declared.construct_rows.TheConstants.{CONSTRUCT_ROWS, MISSING_ROWS}
+use Rattle.ob_messages.specs.declared.function_rows.TheConstants.{FUNCTION_ROWS}
 use Rattle.ob_messages.specs.declared.sentence_rows.TheConstants.{END_ROWS, LIMIT_ROWS, SENTENCE_ROWS, TYPE_ROWS}
 use Rattle.ob_messages.specs.declared.token_rows.TheConstants.{DECLARATION_ROWS, RULE_ROWS, SIGN_ROWS, STATEMENT_ROWS}
 use Rattle.ob_messages.specs.declared.word_rows.TheConstants.{BYTE_ROWS, NAME_ROWS, WORD_ROWS}
@@ -83,6 +84,12 @@ byte_rows = map (λ row. record {
   when = map (λ w. when_by (λ text. text.now) (λ texts. map (λ text. text.now) texts.now) (λ kinds. kinds.now) w) row.when.now;
   said = map (λ p. piece_by (λ text. text.now) p) row.said.now;
 }) BYTE_ROWS.now
+
+unfoldable pub function_rows : List Row
+function_rows = map (λ row. record {
+  when = map (λ w. when_by (λ text. text.now) (λ texts. map (λ text. text.now) texts.now) (λ kinds. kinds.now) w) row.when.now;
+  said = map (λ p. piece_by (λ text. text.now) p) row.said.now;
+}) FUNCTION_ROWS.now
 
 unfoldable pub sign_rows : List Row
 sign_rows = map (λ row. record {
@@ -211,8 +218,9 @@ sentence_of view = sentence_by view.number view
 
 abbrev pub token_hint : View → Option (List Piece)
 token_hint view =
-    option_or (option_or (first view sign_rows) (option_or (first view statement_rows) (first view declaration_rows)))
-    (option_or (first view construct_rows) (option_or (first view word_rows) (first view missing_rows)))
+    option_or (first view function_rows)
+    (option_or (option_or (first view sign_rows) (option_or (first view statement_rows) (first view declaration_rows)))
+    (option_or (first view construct_rows) (option_or (first view word_rows) (first view missing_rows))))
 
 abbrev pub hint_by : Number → View → Option (List Piece)
 hint_by number.S1 view = first view byte_rows

@@ -2,6 +2,7 @@
 
 use crate::table::WhenOf::{Here, Is, Last, Not};
 use crate::table::{Fact, Piece, PieceOf, Row};
+use crate::word_rows::NO_SHIFT;
 use ob_scan::Kind;
 
 /// A table: in each row conditions, and what is said.
@@ -14,6 +15,8 @@ macro_rules! rows {
 const REPEAT_END: &[Piece] = &[PieceOf::Text(
     "a REPEAT ends with UNTIL and its condition, without an END",
 )];
+
+const SHIFT: &[Piece] = &[PieceOf::Text(NO_SHIFT)];
 
 const THE: Piece = PieceOf::Text("the ");
 
@@ -57,6 +60,8 @@ pub const CONSTRUCT_ROWS: &[Row] = rows! {
     [Is(Fact::NoParen)] => &[PieceOf::Text("is a ) missing before it?")];
     [Last(&[Kind::Less]), Here(&[Kind::Greater, Kind::GreaterOrEqual]), Is(Fact::Touching)] =>
         &[PieceOf::Text("not equal is written #")];
+    [Last(&[Kind::Less]), Here(&[Kind::Less, Kind::LessOrEqual]), Is(Fact::Touching)] => SHIFT;
+    [Last(&[Kind::Greater]), Here(&[Kind::Greater, Kind::GreaterOrEqual]), Is(Fact::Touching)] => SHIFT;
     [
         Last(&[Kind::Equal, Kind::Assign, Kind::LessOrEqual, Kind::GreaterOrEqual]),
         Here(&[Kind::Greater, Kind::GreaterOrEqual]),

@@ -5,6 +5,7 @@
 
 pub mod construct_rows;
 pub mod explanation;
+pub mod function_rows;
 pub mod groups;
 pub mod kinds;
 pub mod matcher;

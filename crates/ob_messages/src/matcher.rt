@@ -2,11 +2,12 @@
 
 ghost use Rattle.std.specs.Prelude.{◌≡◌, map, option_map};
 ghost use Rattle.std.specs.List.{list_all, list_any};
-ghost use Rattle.ob_messages.specs.Rows.{byte_rows, construct_rows, declaration_rows, end_rows, first, has, has_fact, has_word, hint_of, holds};
+ghost use Rattle.ob_messages.specs.Rows.{byte_rows, construct_rows, declaration_rows, end_rows, first, function_rows, has, has_fact, has_word, hint_of, holds};
 ghost use Rattle.ob_messages.specs.Rows.{is_one, is_seen, is_word, limit_rows, missing_rows, name_rows, option_or, pieces_of, row_of, rule_rows};
 ghost use Rattle.ob_messages.specs.Rows.{sentence_of, sentence_rows, sign_rows, statement_rows, token_hint, type_rows, when_of, word_rows};
 
 use crate::construct_rows::{CONSTRUCT_ROWS, MISSING_ROWS};
+use crate::function_rows::FUNCTION_ROWS;
 use crate::sentence_rows::{END_ROWS, LIMIT_ROWS, SENTENCE_ROWS, TYPE_ROWS};
 use crate::table::{Fact, Number, Piece, Row, When, WhenOf};
 use crate::token_rows::{DECLARATION_ROWS, RULE_ROWS, SIGN_ROWS, STATEMENT_ROWS};
@@ -68,7 +69,8 @@ fn token_hint(view: &View) -> Option<&'static [Piece]>
     );
     let of_token = either(first(sign_rows(), view), of_declaration);
     let of_word = either(word_hint(view), first(missing_rows(), view));
-    either(of_token, either(first(construct_rows(), view), of_word))
+    let of_other = either(of_token, either(first(construct_rows(), view), of_word));
+    either(first(function_rows(), view), of_other)
 }
 
 /// The hint on a word of another language.
@@ -103,6 +105,13 @@ fn byte_rows() -> &'static [Row]
     ensures { map row_of result.now ≡ byte_rows }
 {
     BYTE_ROWS
+}
+
+#[tactic(auto, unfolding(crate::specs::Rows::function_rows))]
+fn function_rows() -> &'static [Row]
+    ensures { map row_of result.now ≡ function_rows }
+{
+    FUNCTION_ROWS
 }
 
 #[tactic(auto, unfolding(crate::specs::Rows::sign_rows))]

@@ -82,6 +82,8 @@ pub enum Fact {
     Named,
     /// A procedure of this name is declared further down.
     FurtherDown,
+    /// A field has this name.
+    Field,
     /// The word is a type of numbers of another language.
     NumberType,
     /// The name stands in a record; it is declared before.

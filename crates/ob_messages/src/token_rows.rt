@@ -1,8 +1,8 @@
 //! Hints on tokens that can't stand where they do, by the tokens around the place and by what could stand there.
 
-use crate::table::WhenOf::{Could, Here, Is, Last, Never, Next, Not, On, Second, Sign};
+use crate::table::WhenOf::{Could, Here, Is, Last, Never, Next, Not, On, Second, Sign, Word};
 use crate::table::{Fact, Number, Piece, PieceOf, Row};
-use crate::word_rows::NO_REAL;
+use crate::word_rows::{NO_REAL, NO_SHIFT};
 use ob_scan::Kind;
 
 /// A table: in each row conditions, and what is said.
@@ -60,6 +60,7 @@ const ACTUALS: &[Piece] = &[PieceOf::Text(
 
 /// Names that are meant to be keywords, and signs.
 pub const SIGN_ROWS: &[Row] = rows! {
+    [Is(Fact::Keyword), Word(&["XOR"])] => &[PieceOf::Text("there is no XOR; of two BOOLEANs a # b says that one is TRUE and one is not")];
     [Is(Fact::Keyword)] => &[PieceOf::Text("did you mean "), PieceOf::Keyword, PieceOf::Text("?")];
     [Here(&[Kind::LeftParen]), Could(&[Kind::LeftBracket]), Not(Fact::Foreign), Is(Fact::NoArray)] => NO_FUNCTION;
     [Here(&[Kind::LeftParen]), Could(&[Kind::LeftBracket]), Not(Fact::Foreign)] => INDEX;
@@ -73,6 +74,9 @@ pub const SIGN_ROWS: &[Row] = rows! {
     [Sign("--"), Could(&[Kind::Assign])] => CHANGE;
     [Sign("+="), Could(&[Kind::Assign])] => CHANGE;
     [Sign("-="), Could(&[Kind::Assign])] => CHANGE;
+    [Sign("*="), Could(&[Kind::Assign])] => CHANGE;
+    [Sign("<<="), Could(&[Kind::Assign])] => &[PieceOf::Text(NO_SHIFT)];
+    [Sign(">>="), Could(&[Kind::Assign])] => &[PieceOf::Text(NO_SHIFT)];
     [
         Here(&[Kind::Equal, Kind::NotEqual, Kind::Less, Kind::LessOrEqual, Kind::Greater, Kind::GreaterOrEqual]),
         Could(&[Kind::And]),
@@ -92,7 +96,7 @@ pub const SIGN_ROWS: &[Row] = rows! {
         &[PieceOf::Text("a comment is written (* .. *), and # is not equal")];
 };
 
-/// Tokens among statements.
+/// Tokens among statements, and words that stand between operands.
 pub const STATEMENT_ROWS: &[Row] = rows! {
     [Here(&[Kind::Begin]), Last(&[Kind::Then, Kind::Else, Kind::Do, Kind::Repeat])] =>
         &[PieceOf::Text("there are no blocks: behind THEN, ELSE, DO and REPEAT statements stand without BEGIN")];
@@ -105,6 +109,8 @@ pub const STATEMENT_ROWS: &[Row] = rows! {
         &[PieceOf::Text(":= is one symbol, with no blank in it")];
     [Here(&[Kind::Dot]), Last(&[Kind::Number]), Next(&[Kind::Number])] =>
         &[PieceOf::Text(NO_REAL)];
+    [Sign("IN "), Could(&[Kind::And])] => &[PieceOf::Text("there are no sets and no IN; compare with each value, or ask an array of BOOLEANs")];
+    [Sign("IS "), Could(&[Kind::And])] => &[PieceOf::Text("there is no IS; a variable has the one type of its declaration")];
     [Here(&[Kind::Ident]), Last(&[Kind::Number]), Is(Fact::Touching)] => &[PieceOf::Text(
         "a number has the digits 0 to 9 alone, without hexadecimal digits or exponents; a name begins with a letter",
     )];

@@ -7,7 +7,7 @@ use Rattle.std.specs.Str.{bytes_eq}
 use Rattle.std.specs.declared.io.ErrorKind.{ErrorKind}
 use Rattle.std.specs.declared.io.ErrorKind.TheVariants as Kind
 use Rattle.ob_command.specs.CommandLine.{Text, CallsRequest, OrderRequest, OutcomesRequest, Request, RunRequest, SeenRequest, Check, Listing, Seq, Live, Run, RunTree, RunSteps, RunFinished, RunByChance, Serve, Draw, DrawRecord, DrawHistory, Outcomes, State, Verify, Order}
-use Rattle.ob_command.specs.CommandLine.{Explain, ExplainAlways, ExplainCalls, ExplainTraps, ExplainRun, ExplainRecord, ExplainHistory, Bound, default_budget, default_most, default_most_reached}
+use Rattle.ob_command.specs.CommandLine.{Explain, ExplainAlways, ExplainCalls, ExplainFault, ExplainTraps, ExplainRun, ExplainRecord, ExplainHistory, Bound, default_budget, default_most, default_most_reached}
 use Rattle.ob_command.specs.declared.command.OrderProduct.{OrderProduct}
 use Rattle.ob_command.specs.declared.command.RunProduct.{RunProduct}
 use Rattle.ob_command.specs.declared.command.RunProduct.TheVariants as products
@@ -270,6 +270,7 @@ calls_told request status calls = if is_run request && (status == 0) then calls 
 -- a command shows its faults to people itself
 abbrev pub is_explain : Request → Bool
 is_explain (Explain module_name budget) = true
+is_explain (ExplainFault name) = true
 is_explain (ExplainCalls calls) = true
 is_explain (ExplainTraps calls) = true
 is_explain (ExplainRun run) = true

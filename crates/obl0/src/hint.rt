@@ -172,6 +172,7 @@ fn is_explain(command: Command<'_>) -> bool
     matches!(
         command,
         Command::Explain { .. }
+            | Command::ExplainFault { .. }
             | Command::ExplainCalls(_)
             | Command::ExplainTraps(_)
             | Command::ExplainRun(_)
@@ -274,6 +275,7 @@ fn form_about(alloc: Global, command: Command<'_>, line: &[u8]) -> Result<String
         } => record_form(alloc, module_name, record_name),
         Command::Order(order) => order_form(alloc, order, line),
         Command::Explain { .. }
+        | Command::ExplainFault { .. }
         | Command::ExplainCalls(_)
         | Command::ExplainTraps(_)
         | Command::ExplainRun(_)

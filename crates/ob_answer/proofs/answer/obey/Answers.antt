@@ -70,6 +70,9 @@ returns-in-Order g c = rw c.in-Order.is c.obey_order.ensures
 pub returns-in-Explain : goal.returns-in-Explain
 returns-in-Explain g c = rw c.in-Explain.is (IfOk-weaker c.obey_explain_module.result _ _ (λ a h. h 0) c.obey_explain_module.ensures)
 
+pub returns-in-ExplainFault : goal.returns-in-ExplainFault
+returns-in-ExplainFault g c = rw c.in-ExplainFault.is (IfOk-weaker c.answer_fault.result _ _ (λ a h. (h, refl)) c.answer_fault.ensures)
+
 pub returns-in-ExplainCalls : goal.returns-in-ExplainCalls
 returns-in-ExplainCalls g c = rw c.in-ExplainCalls.is c.obey_calls-in-ExplainCalls.ensures
 

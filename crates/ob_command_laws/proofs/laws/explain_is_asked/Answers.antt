@@ -1,5 +1,5 @@
 use Rattle.ob_command_laws.proofs.CommandForms.{explain_module_asks, explain_schedule_asks, explain_script_asks}
-use Rattle.ob_command_laws.proofs.FormsAsked.{explain_always_form, explain_calls_form, explain_form, explain_history_form, explain_record_form, explain_run_form, explain_traps_form}
+use Rattle.ob_command_laws.proofs.FormsAsked.{explain_always_form, explain_budget_form, explain_calls_form, explain_fault_form, explain_form, explain_history_form, explain_record_form, explain_run_form, explain_traps_form}
 use Rattle.ob_command_laws.proofs.laws.explain_is_asked.Goals as goal
 
 pub returns-clause-table_of_one : goal.returns-clause-table_of_one
@@ -13,6 +13,12 @@ returns-clause-table c = explain_schedule_asks
 
 pub returns-clause-module : goal.returns-clause-module
 returns-clause-module c = explain_form
+
+pub returns-clause-budget : goal.returns-clause-budget
+returns-clause-budget c = explain_budget_form
+
+pub returns-clause-fault : goal.returns-clause-fault
+returns-clause-fault c = explain_fault_form
 
 pub returns-clause-record : goal.returns-clause-record
 returns-clause-record c = explain_record_form

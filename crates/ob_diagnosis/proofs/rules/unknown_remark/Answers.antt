@@ -4,6 +4,7 @@ use Rattle.ob_diagnosis.proofs.rules.unknown_remark.Goals as goal
 pub told-requires : goal.told-requires
 told-requires c = record {
   further_down = c.declares.result;
+  field = c.is_field.result;
   number_type = c.is_number_type.result;
   small_keyword = c.is_small_keyword.result;
   name = rw (c.bytes_of.ensures, c.in_ok-near.ensures) refl;

@@ -3,7 +3,7 @@ use Rattle.std.specs.Prelude.{option_map}
 use Rattle.std.proofs.lemmas.List.{get_or-map, get_or_read, length-map, length-set}
 use Rattle.std.proofs.lemmas.List.Elements.{All-get_or}
 use Rattle.ob_traps.specs.Reaching.{site_of}
-use Rattle.ob_explained_records.specs.TrapLines.{setting_of, traps_lines}
+use Rattle.ob_explained_records.specs.TrapLines.{calls_there, count_lines, lines_from, setting_of, site_lines, spot_of}
 use Rattle.ob_explained_records.proofs.Counts.{HasCounted, HasCounted-more, counted_few, named, the_call, told_next}
 use Rattle.ob_explained_records.proofs.trap_lines.traps_told.Goals as goal
 
@@ -38,7 +38,19 @@ loop-index-preserved c =
     let call = named c.args.processes c.args.callers.now k made c.loop-index.invariant.0 c.args.lines.now p c.index.result.now (get_or c.args.lines.now k 0) below refl number refl in
     let counts = subst (λ n. HasCounted c.args.processes c.args.callers.now (k + 1) (set made p (n + 1))) (sym read)
     (HasCounted-more c.args.processes c.args.callers.now k made c.loop-index.invariant.0 p below within refl) in
-    let told = ap (λ t. t ++ traps_lines setting c.args.callers.now c.args.lines.now (k + 1) (drop (k + 1) sites)) c.in_ok-push_site.ensures
-    ∙ told_next setting c.args.callers.now c.args.lines.now sites _ k (the_call p c.index.result.now (get_or c.args.lines.now k 0)) site (string_bytes c.loop-index.told)
-    inside here call c.loop-index.invariant.1 in
+    let spots = map (spot_of setting.tree) sites in
+    let found : c.deref.result.now ≡ spots = c.deref.ensures.value ∙ c.in_ok-spots.ensures in
+    let counted : c.calls_there.result ≡ calls_there spots k (spot_of setting.tree site) =
+    c.calls_there.ensures ∙ ap (λ s. calls_there s k c.spot_of.result) found ∙ ap (calls_there spots k) c.spot_of.ensures in
+    let told = ap (λ t. t ++ lines_from setting c.args.callers.now c.args.lines.now spots (k + 1) (drop (k + 1) sites))
+    (c.in_ok-push_count.ensures ∙ ap (λ t. t ++ count_lines c.calls_there.result) (c.in_ok-push_site.ensures ∙ ap (λ s. string_bytes c.loop-index.told ++ site_lines setting (the_call p c.index.result.now (get_or c.args.lines.now k 0)) s) c.if_first.ensures))
+    ∙ told_next setting c.args.callers.now c.args.lines.now sites spots _ k (the_call p c.index.result.now (get_or c.args.lines.now k 0)) site c.calls_there.result (string_bytes c.loop-index.told)
+    inside here call counted c.loop-index.invariant.1 in
     (counts, told)
+
+pub calls_there-requires : goal.calls_there-requires
+calls_there-requires c =
+    let long : length c.deref.result.now ≡ length c.args.sites.now =
+    ap length (c.deref.ensures.value ∙ c.in_ok-spots.ensures) ∙ length-map (map (option_map site_of) c.args.sites.now) (spot_of (setting_of c.args.setting).tree)
+    ∙ length-map c.args.sites.now (option_map site_of) in
+    omega (arith, long, c.loop-index-test.true)

@@ -1,0 +1,32 @@
+//! Hints on functions that other languages have, at the parenthesis behind their names.
+
+use crate::table::WhenOf::{Could, Here, Is, Not, Word};
+use crate::table::{Fact, PieceOf, Row};
+use crate::word_rows::{NO_CHARACTER, NO_REAL, NO_SHIFT};
+use ob_scan::Kind;
+
+/// A table: in each row the names of functions that no procedure and no array has, and what is said.
+macro_rules! rows {
+    ($([$($word:expr),*] => $said:expr;)*) => {
+        &[$(Row {
+            when: &[
+                Here(&[Kind::LeftParen]), Could(&[Kind::LeftBracket]), Is(Fact::NoArray), Not(Fact::BehindCall),
+                Word(&[$($word),*])
+            ],
+            said: &[PieceOf::Text($said)],
+        }),*]
+    };
+}
+
+/// Functions that other languages have.
+pub const FUNCTION_ROWS: &[Row] = rows! {
+    ["MAX"] => "there is no MAX; write IF a < b THEN a := b END; the greatest INTEGER is 2147483647";
+    ["MIN"] => "there is no MIN; write IF b < a THEN a := b END; the smallest INTEGER is -2147483647 - 1";
+    ["ABS"] => "there is no ABS; write IF x < 0 THEN x := -x END";
+    ["ODD"] => "there is no ODD; write x MOD 2 = 1";
+    ["LEN"] => "there is no LEN; declare the length as a constant, as CONST n = 4, and the type as ARRAY n OF INTEGER";
+    ["ORD"] => "there is no ORD; write IF b THEN x := 1 ELSE x := 0 END";
+    ["CHR", "CAP"] => NO_CHARACTER;
+    ["ENTIER", "FLOOR", "FLT"] => NO_REAL;
+    ["ASH", "ASR", "LSL", "LSR", "ROR", "SHL", "SHR"] => NO_SHIFT;
+};
