@@ -7,6 +7,7 @@
 pub mod calls;
 pub mod coded;
 mod fitting;
+mod noted;
 pub mod room;
 mod running;
 pub mod scalars;
