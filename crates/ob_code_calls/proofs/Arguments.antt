@@ -1,5 +1,14 @@
--- Arguments that fit parameters, one after the other.
-use Rattle.std.proofs.Common.{◌≡◌, Bool, true, false, cond, not, List, ◌∷◌, map, filter, ap, ◌∙◌, sym}
+-- Arguments that fit parameters, one after the other, and how many there are.
+use Rattle.std.proofs.Common.{◌≡◌, ◌<◌, suc, Bool, true, false, cond, not, List, [], ◌∷◌, length, map, filter, refl, ap, ◌∙◌, sym, arith}
+use Rattle.std.proofs.Math.Logic.{∥∥₁_elim}
+use Rattle.std.proofs.Math.Bridge.{le_prop}
+use Rattle.std.proofs.lemmas.List.{length-map}
+use Rattle.std.proofs.lemmas.Option.{slice_get_within}
+use Rattle.ob_code_calls.specs.Calls.{meaning_of}
+use Rattle.ob_code_correct.proofs.ExportLaw.{most_has}
+use Rattle.ob_code_correct.specs.CodeMeaning.{EngineParts, value_count}
+use Rattle.ob_code_correct.specs.Compiled.{IsFitting}
+use Rattle.ob_interface.specs.Call.{ObjectCall}
 use Rattle.ob_interface.specs.declared.export.Formal.{Formal}
 use Rattle.ob_interface.specs.declared.scalar.Scalar.{Scalar}
 use Rattle.ob_interface.specs.declared.scalar.ScalarType.{ScalarType}
@@ -18,3 +27,31 @@ pub value_more : (f : Formal) (fs : List Formal) (a : Scalar) (arguments : List 
 unfolding types_with
 value_more f fs a arguments is typed fit =
     ap (λ (t : ScalarType). t ∷ map type_of arguments) typed ∙ ap (λ (ts : List ScalarType). f.scalar_type ∷ ts) fit ∙ sym (ap (λ (b : Bool). types_with (not b) f fs) is)
+
+-- arguments that fit are as many as the parameters that are not VAR
+values_with : (b : Bool) (f : Formal) (fs : List Formal) → length (filter (λ (g : Formal). not g.is_var) fs) ≡ value_count fs →
+    length (cond (not b) (f ∷ filter (λ (g : Formal). not g.is_var) fs) (filter (λ (g : Formal). not g.is_var) fs)) ≡ cond b (value_count fs) (suc (value_count fs))
+values_with true f fs h = h
+values_with false f fs h = ap suc h
+
+values_counted : (fs : List Formal) → length (filter (λ (g : Formal). not g.is_var) fs) ≡ value_count fs
+values_counted [] = refl
+values_counted (f ∷ fs) = values_with f.is_var f fs (values_counted fs)
+
+pub as_many : (fs : List Formal) (arguments : List Scalar) → ArgumentsFit fs arguments → length arguments ≡ value_count fs
+as_many fs arguments fit =
+    sym (length-map arguments type_of)
+    ∙ ap (λ (types : List ScalarType). length types) fit
+    ∙ length-map (filter (λ (f : Formal). not f.is_var) fs) (λ (f : Formal). f.scalar_type)
+    ∙ values_counted fs
+
+-- so there is room for them behind the number of the call
+pub has_room_for : (parts : EngineParts) (call : ObjectCall) → ∥ IsFitting parts.exports call ∥₁ → length call.arguments < (meaning_of parts).arguments
+has_room_for parts call fits = ∥∥₁_elim fits le_prop (λ f.
+    let many = as_many f.entrance.parameters call.arguments f.typed in
+    let has = most_has value_count parts.exports call.export f.entrance f.there in
+    omega (arith, many, has))
+
+-- and its number is one of an export
+pub is_within : (parts : EngineParts) (call : ObjectCall) → ∥ IsFitting parts.exports call ∥₁ → call.export < length parts.exports
+is_within parts call fits = ∥∥₁_elim fits le_prop (λ f. slice_get_within parts.exports call.export f.entrance f.there)

@@ -1,5 +1,5 @@
 -- What the body of a call comes to, where it may take as many instructions as are paid for.
-use Rattle.std.proofs.Common.{◌≡◌, ℕ, ◌+◌, ◌*◌, ◌^◌, ◌<◌, ◌≤◌, true, List, length, refl, sym, ap, ◌∙◌, subst, inl, inr, arith}
+use Rattle.std.proofs.Common.{◌≡◌, ℕ, ◌^◌, ◌<◌, ◌≤◌, true, List, length, refl, sym, ap, ◌∙◌, subst, inl, inr, arith}
 use Rattle.std.proofs.Math.Logic.{∥∥₁_elim}
 use Rattle.std.proofs.Math.Nat.{ℕ_set}
 use Rattle.std.specs.Prelude.{ℤ, ◌⊎◌}
@@ -15,15 +15,11 @@ use Rattle.ob_code_correct.specs.Parts.{HasProgram, IsCompiledTo, IsLawfulFor}
 use Rattle.ob_code_correct.proofs.CodeLaw.{called_effect, effect_called, bodies_end}
 use Rattle.ob_code_correct.proofs.OneEnd.{one_end}
 use Rattle.ob_code_correct.proofs.PartsLaw.{lawful_of, parts_lawful}
-use Rattle.ob_code_calls.specs.Calls.{IsMade, meaning_of}
+use Rattle.ob_code_calls.specs.Calls.{IsMade, meaning_of, paid}
 use Rattle.wf_table.specs.declared.engine_turn.EngineTurn.{EngineTurn}
 use Rattle.wf_table.specs.declared.engine_turn.EngineTurn.TheVariants.{On, Returned, Trapped, Stuck}
 use Rattle.wf_table.specs.Law.{IsLawful}
 use Rattle.wf_table.specs.Meaning.{Meaning, Turned, is_over, body, kept, steps}
-
--- so many instructions are paid for
-abbrev pub paid : EngineParts → ℕ
-paid parts = (parts.budget + 1) * length parts.code.instructions
 
 module _ (program : Program) (parts : EngineParts) (compiled : IsCompiledTo program parts) (call : ObjectCall) (fits : IsFitting parts.exports call)
     (before : Activation) (block : List ℤ) (encodes : IsEncoding program.variables before block) where

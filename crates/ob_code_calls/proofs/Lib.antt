@@ -1,3 +1,4 @@
+mod Again
 mod Arguments
 pub mod Ended
 mod Results

@@ -1,13 +1,13 @@
 -- What a call makes of a block of words, and what it answers.
-use Rattle.std.specs.Prelude.{◌≡◌, ◌+◌, ℕ, ℤ, List}
-use Rattle.ob_interface.specs.Call.{ObjectCall, Reply}
+use Rattle.std.specs.Prelude.{◌≡◌, ◌+◌, ◌*◌, ℕ, ℤ, List, [], ◌∷◌, length}
+use Rattle.ob_interface.specs.Call.{ObjectCall, Reply, Answers, Trapped}
 use Rattle.ob_typing.specs.Program.{Program}
 use Rattle.ob_meaning.specs.ByPositionObject.{effect}
 use Rattle.ob_meaning.specs.ByPositionStore.{Activation}
 use Rattle.ob_code_correct.specs.CodeMeaning.{EngineParts, code_meaning}
 use Rattle.ob_code_machine.specs.Body.{Run}
 use Rattle.ob_code_scheme.specs.Layout.{IsEncoding}
-use Rattle.wf_table.specs.Meaning.{Meaning}
+use Rattle.wf_table.specs.Meaning.{Meaning, body}
 
 -- Of a call of the program with so many turns, on the state whose words a block has: what it comes to there has this reply, and the block
 -- has the words of the state behind it. That is the state before it, where the call traps.
@@ -18,6 +18,24 @@ pub record IsMade (program : Program) (budget : ℕ) (call : ObjectCall) (before
 -- what code with these parts does as an engine
 abbrev pub meaning_of : EngineParts → Meaning Run
 meaning_of = code_meaning
+
+-- so many instructions are paid for: as many as the code has by each turn, and by the call itself
+abbrev pub paid : EngineParts → ℕ
+paid parts = (parts.budget + 1) * length parts.code.instructions
+
+-- what the body of a call leaves of a block, also where it traps
+abbrev pub left_by : EngineParts → List ℤ → ObjectCall → List ℤ
+left_by parts block call = (body (meaning_of parts) (paid parts) block call).block
+
+-- what the bodies of calls leave of it, one behind the other
+abbrev pub left_by_all : EngineParts → List ℤ → List ObjectCall → List ℤ
+left_by_all parts block [] = block
+left_by_all parts block (call ∷ calls) = left_by_all parts (left_by parts block call) calls
+
+-- the block with the words of the state behind a call: the one that it leaves, or where it traps the one before it
+abbrev pub block_behind : Reply → (before left : List ℤ) → List ℤ
+block_behind (Answers values) before left = left
+block_behind (Trapped number) before left = before
 
 -- what calls work in is as large as code with these parts needs it
 pub record HasRoom (parts : EngineParts) (reserve call saved results : ℕ) : Type 0 where

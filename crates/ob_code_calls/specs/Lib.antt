@@ -1,4 +1,5 @@
 pub mod Calls
+pub mod Keeping
 pub mod Parts
 pub mod Scalars
 pub mod Standing

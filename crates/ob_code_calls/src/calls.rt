@@ -4,10 +4,11 @@ ghost use Rattle.std.specs.Prelude.{◌≡◌, ◌+◌, ◌*◌, length};
 
 use crate::fitting::do_fit;
 use crate::room::Room;
-use crate::running::{begin, reply_to, run_kept};
+use crate::running::{begin, reply_to, run_kept, run_on};
 use ob_checked::checked::Checked;
 use ob_code_correct::well_formed_laws::checked_is_well_formed;
 use ob_code_engine::CodeEngine;
+use ob_code_engine::words::lay;
 use ob_code_machine::Code;
 use ob_interface::NoMemory;
 use ob_interface::call::{Call, Reply};
@@ -32,7 +33,7 @@ pub struct CodeCalls {
 impl CodeCalls {
     ghost use Rattle.std.specs.Prelude.{◌≤◌, IfOk, IsTrue, List};
     ghost use Rattle.ob_checked.specs.CheckedModule.{program_in};
-    ghost use Rattle.ob_code_calls.specs.Calls.{IsMade};
+    ghost use Rattle.ob_code_calls.specs.Calls.{IsMade, block_behind, left_by, meaning_of, paid};
     ghost use Rattle.ob_code_calls.specs.Parts.{parts_in, IsRoomFor};
     ghost use Rattle.ob_code_correct.specs.Compiled.{IsFitting, parts_of};
     ghost use Rattle.ob_code_correct.specs.Parts.{IsCompiledTo, IsLawfulFor};
@@ -43,6 +44,7 @@ impl CodeCalls {
     ghost use Rattle.ob_meaning.specs.ByNameObject.{most_turns};
     ghost use Rattle.ob_meaning.specs.ByPositionStore.{Activation};
     ghost use Rattle.ob_typing.specs.Program.{Program};
+    ghost use Rattle.wf_table.specs.Meaning.{body};
 
     /// The code of a checked module, by its layout, each call with so many turns.
     pub fn new(
@@ -119,5 +121,56 @@ impl CodeCalls {
             EngineTurn::Trapped(number) => Reply::Trap(number),
             _ => unreachable!(),
         }
+    }
+
+    /// The body of a call on a block, from its beginning to where it ends: what its last instruction answers, and how many there were.
+    fn run_through(&self, room: &mut Room, block: &mut [i64], call: &Call) -> (EngineTurn, u64)
+        requires room { IsRoomFor (parts_in self.now) room.old }
+        requires fits { IsFitting (parts_in self.now).exports (call_of call.now) }
+        requires block { length block.old ≡ (parts_in self.now).variables }
+        ensures room { IsRoomFor (parts_in self.now) room.new }
+        ensures body { record { turn = result.0; run = room.new.run; block = block.new }
+            ≡ body (meaning_of (parts_in self.now)) (paid (parts_in self.now)) block.old (call_of call.now) }
+    {
+        begin(&self.engine, &mut room.run, call, room.call.as_mut_slice());
+        run_on(&self.engine, &mut room.run, block, self.most)
+    }
+
+    /// A call that is made on the block of a state, its reply, and how many instructions it took. Where it traps, what it has written is
+    /// left in the block: the words of the state are those that it had before.
+    pub fn call_through(&self, room: &mut Room, block: &mut [i64], call: &Call) -> (Reply, u64)
+        requires room { IsRoomFor (parts_in self.now) room.old }
+        requires fits { IsFitting (parts_in self.now).exports (call_of call.now) }
+        requires lawful { ∥ IsLawfulFor (parts_in self.now) block.old ∥₁ }
+        ensures room { IsRoomFor (parts_in self.now) room.new }
+        ensures made { (program : Program) (before : Activation) → IsCompiledTo program (parts_in self.now) → IsEncoding program.variables before block.old
+            → IsMade program (parts_in self.now).budget (call_of call.now) before (block_behind (reply_of result.0) block.old block.new) (reply_of result.0) }
+        ensures left { block.new ≡ left_by (parts_in self.now) block.old (call_of call.now) }
+    {
+        let (turn, steps) = self.run_through(room, block, call);
+        match turn {
+            EngineTurn::Returned => {
+                let results = room.results.as_mut_slice();
+                (reply_to(&self.engine, &room.run, call, results), steps)
+            }
+            EngineTurn::Trapped(number) => (Reply::Trap(number), steps),
+            _ => unreachable!(),
+        }
+    }
+
+    /// A call that is made once more on a block, for what it leaves there.
+    pub fn call_again(&self, room: &mut Room, block: &mut [i64], call: &Call)
+        requires room { IsRoomFor (parts_in self.now) room.old }
+        requires fits { ∥ IsFitting (parts_in self.now).exports (call_of call.now) ∥₁ }
+        requires block { length block.old ≡ (parts_in self.now).variables }
+        ensures room { IsRoomFor (parts_in self.now) room.new }
+        ensures left { block.new ≡ left_by (parts_in self.now) block.old (call_of call.now) }
+    {
+        // The exports stand in memory, so that their numbers are words.
+        let _exports = self.engine.exports();
+        let words = room.call.as_mut_slice();
+        lay(call, words);
+        self.engine.start(&mut room.run, words);
+        let _ = run_on(&self.engine, &mut room.run, block, self.most);
     }
 }

@@ -6,6 +6,7 @@
 
 pub mod calls;
 mod fitting;
+mod noted;
 pub mod room;
 mod running;
 pub mod scalars;

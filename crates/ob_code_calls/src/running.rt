@@ -25,22 +25,27 @@ pub(crate) fn begin(engine: &CodeEngine, run: &mut Body, call: &Call, words: &mu
     engine.start(run, words);
 }
 
-/// Steps of a body on a block, at most so many, up to the first behind which it doesn't go on; and what the last one answers. It stands
-/// apart, so that what a step of the body needs is at hand in the loop.
+/// Steps of a body on a block, at most so many, up to the first behind which it doesn't go on; what the last one answers, and how many
+/// there were. It stands apart, so that what a step of the body needs is at hand in the loop.
 #[inline(never)]
-fn run_on(engine: &CodeEngine, run: &mut Body, block: &mut [i64], most: u64) -> EngineTurn
+pub(crate) fn run_on(
+    engine: &CodeEngine,
+    run: &mut Body,
+    block: &mut [i64],
+    most: u64,
+) -> (EngineTurn, u64)
     requires ready { HasReserve engine.now.parts run.old }
     requires block { length block.old ≡ engine.now.parts.variables }
     ensures ready { HasReserve engine.now.parts run.new }
-    ensures steps { record { turn = result; run = run.new; block = block.new } ≡ steps (meaning_of engine.now.parts) most run.old block.old }
+    ensures steps { record { turn = result.0; run = run.new; block = block.new } ≡ steps (meaning_of engine.now.parts) most run.old block.old }
 {
     for count in 0..most {
         match engine.step(run, block) {
             EngineTurn::On => {}
-            turn => return turn,
+            turn => return (turn, count + 1),
         }
     }
-    EngineTurn::On
+    (EngineTurn::On, most)
 }
 
 /// The same. Where the body traps, the block is as it was: it is kept in other words meanwhile.
@@ -61,7 +66,7 @@ pub(crate) fn run_kept(
     ensures trapped { (number : ℕ) → result ≡ Turns.Trapped number → block.new ≡ block.old }
 {
     saved.copy_from_slice(block);
-    let turn = run_on(engine, run, block, most);
+    let (turn, _) = run_on(engine, run, block, most);
     if let EngineTurn::Trapped(_) = turn {
         block.copy_from_slice(saved);
     }
