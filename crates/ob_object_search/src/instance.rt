@@ -191,6 +191,10 @@ impl<'a> Object for ModuleObject<'a> {
         matches!(reply, SeenReply::Trap(_)) || self.is_read_only(call.proc)
     }
 
+    fn is_reader(&self, call: SeenCall) -> bool {
+        self.is_read_only(call.proc)
+    }
+
     ghost determined = { λ o. one_outcome (program_in o.checked.now) o.budget };
 
     ghost told_apart = { words_told_apart };

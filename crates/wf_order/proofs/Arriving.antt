@@ -1,7 +1,7 @@
 -- One try of a search: what is found, and that less is left to be done.
 use Rattle.std.proofs.Common.{◌≡◌, refl, sym, ap, ◌∙◌, subst, ℕ, ◌+◌, ◌-◌, ◌<◌, ◌≤◌, List, [], ◌∷◌, ◌++◌, length, get_or, set, map, Option, Some, None, option_map, arith, inl, inr, length-set}
 use Rattle.std.specs.Prelude.{MatchOption}
-use Rattle.std.proofs.lemmas.List.{map-append, length-map, get_or-map, get_or_at}
+use Rattle.std.proofs.lemmas.List.{append-nil, map-append, length-map, get_or-map, get_or_at}
 use Rattle.std.proofs.lemmas.List.Elements.{Contains-push}
 use Rattle.std.proofs.lemmas.Option.{slice_get_within, get_or_from_slice_get}
 use Rattle.std.specs.List.{slice_get, Contains}
@@ -12,11 +12,11 @@ use Rattle.wf_history.proofs.Positions.{place_push, place_left, contains_at, one
 use Rattle.wf_order.specs.declared.rows.Rows.{Rows}
 use Rattle.wf_order.specs.declared.search.Frame.{Frame}
 use Rattle.wf_order.specs.Rows.{AreRows, begun_rows, row_of}
-use Rattle.wf_order.specs.Rules.{IsBehind, IsAnswered}
+use Rattle.wf_order.specs.Rules.{IsAnswered}
 use Rattle.wf_order.specs.Steps.{Configuration, IsLimit, IsStep, IsDone}
-use Rattle.wf_order.specs.Search.{HasNoStep, IsOnlyStep, IsSilentStep, IsSearch, LeadsOn, IsArrival, left, weights, work}
+use Rattle.wf_order.specs.Search.{IsAttempt, IsSilentStep, IsSearch, LeadsOn, IsArrival, left, weights, work}
 use Rattle.wf_order.specs.Turns.{BeginsFrom, turns}
-use Rattle.wf_order.proofs.Searching.{top_led, popped, advanced, pushed, led_done, places_within}
+use Rattle.wf_order.proofs.Searching.{answered_grown, top_led, popped_answered, advanced, pushed, led_done, places_within}
 use Rattle.wf_order.proofs.Weights.{left_step, pop_less, try_less, push_less}
 
 module _ {M : Type 0} (Effect : ObjectCall → M → M → Reply → Type 0) (history : List (Event ObjectCall Reply)) (processes : ℕ) (rows : Rows) (are : AreRows history processes rows)
@@ -33,11 +33,11 @@ module _ {M : Type 0} (Effect : ObjectCall → M → M → Reply → Type 0) (hi
         subst (λ (x : Configuration M). IsLimit history x.counts f.limit) (one_item found f.place t.0 c t.1 at) t.3,
       )
 
-  pub after_pop : ((c d : Configuration M) (id : CallId) → slice_get found f.place ≡ Some c → IsStep Effect history c id d → BeginsFrom history f.next id → ⊥) →
+  pub after_pop : ((c d : Configuration M) (id : CallId) → slice_get found f.place ≡ Some c → IsStep Effect history c id d → BeginsFrom history f.next id → IsAnswered Effect history found c id d) →
       IsSearch Effect history processes Led start found xs × (work processes rows found xs < work processes rows found (xs ++ f ∷ []))
   unfolding work
   after_pop all = (
-    popped Effect history processes Led leads_on start found xs f h all,
+    popped_answered Effect history processes Led leads_on start found xs f h all,
     pop_less processes (begun_rows rows) (map (λ c. c.counts) found) xs f,
   )
 
@@ -55,17 +55,8 @@ module _ {M : Type 0} (Effect : ObjectCall → M → M → Reply → Type 0) (hi
     unfolding work
     tried_less = try_less processes (begun_rows rows) (map (λ c. c.counts) found) xs f g place fewer_here
 
-    -- each step whose call begins from the one place up to the other is of this process
-    module _ (process : ℕ) (of : (id : CallId) (d : Configuration M) (call : ObjectCall) (begun : ℕ) → slice_get history begun ≡ Some (Begin id call) → f.next ≤ begun → begun < g.next → IsStep Effect history c id d → id.process ≡ process) where
-      pub after_none : HasNoStep Effect history c process → IsSearch Effect history processes Led start found (xs ++ g ∷ []) × (work processes rows found (xs ++ g ∷ []) < work processes rows found (xs ++ f ∷ []))
-      after_none no_step = (advanced Effect history processes Led leads_on start found xs f g h c at place limit (λ id d call begun is le lt s. absurd (no_step id d (of id d call begun is le lt s) s)), tried_less)
-
-      pub after_behind : ((id : CallId) (d : Configuration M) → id.process ≡ process → IsStep Effect history c id d → IsBehind Effect history c id) →
-          IsSearch Effect history processes Led start found (xs ++ g ∷ []) × (work processes rows found (xs ++ g ∷ []) < work processes rows found (xs ++ f ∷ []))
-      after_behind behind = (advanced Effect history processes Led leads_on start found xs f g h c at place limit (λ id d call begun is le lt s. inr (inr (behind id d (of id d call begun is le lt s) s))), tried_less)
-
     module _ (d : Configuration M) (step : IsStep Effect history c g.id d)
-        (covers : (all : List (Configuration M)) → Contains all d → (id : CallId) (y : Configuration M) (call : ObjectCall) (begun : ℕ) → slice_get history begun ≡ Some (Begin id call) → f.next ≤ begun → begun < g.next →
+        (covers : (all later : List (Configuration M)) → all ≡ found ++ later → Contains all d → (id : CallId) (y : Configuration M) (call : ObjectCall) (begun : ℕ) → slice_get history begun ≡ Some (Begin id call) → f.next ≤ begun → begun < g.next →
         IsStep Effect history c id y → IsAnswered Effect history all c id y) where
       left_less : left (map length (begun_rows rows)) d.counts + 1 ≡ left (map length (begun_rows rows)) (row_of (map (λ c. c.counts) found) f.place)
       left_less =
@@ -110,11 +101,11 @@ module _ {M : Type 0} (Effect : ObjectCall → M → M → Reply → Type 0) (hi
             | inl old ↦
                 subst (λ (l : List (Configuration M)). IsSearch Effect history processes Led start l stack × (work processes rows l stack < work processes rows found (xs ++ f ∷ []))) (sym old.1)
                 (subst (λ (l : List Frame). IsSearch Effect history processes Led start found l × (work processes rows found l < work processes rows found (xs ++ f ∷ []))) (sym old.2)
-                (advanced Effect history processes Led leads_on start found xs f g h c at place limit (covers found old.0), tried_less))
+                (advanced Effect history processes Led leads_on start found xs f g h c at place limit (covers found [] (sym (append-nil found)) old.0), tried_less))
             | inr new ↦
                 subst (λ (l : List (Configuration M)). IsSearch Effect history processes Led start l stack × (work processes rows l stack < work processes rows found (xs ++ f ∷ []))) (sym new.0)
                 (subst (λ (l : List Frame). IsSearch Effect history processes Led start (found ++ d ∷ []) l × (work processes rows (found ++ d ∷ []) l < work processes rows found (xs ++ f ∷ []))) (sym new.2)
-                (pushed Effect history processes Led leads_on start found xs f g h c at place limit d step (covers (found ++ d ∷ []) (Contains-push found d)) a.0 new.1 new.3 new.4 new.5, new_less new.1 new.3))
+                (pushed Effect history processes Led leads_on start found xs f g h c at place limit d step (covers (found ++ d ∷ []) (d ∷ []) refl (Contains-push found d)) a.0 new.1 new.3 new.4 new.5, new_less new.1 new.3))
           ]
 
       pub after_found : (more : List (Configuration M)) (stack : List Frame) (path : List CallId) → IsArrival Effect history d found more (xs ++ g ∷ []) stack (Some path) →
@@ -144,12 +135,17 @@ pub step_rows : {M : Type 0} (Effect : ObjectCall → M → M → Reply → Type
 step_rows Effect history rows c d id s are =
     subst (λ (n : ℕ). AreRows history n rows) (sym (length-set c.counts id.process id.number) ∙ ap length (sym s.counts)) are
 
-module _ {M : Type 0} (Effect : ObjectCall → M → M → Reply → Type 0) (history : List (Event ObjectCall Reply)) (c : Configuration M) (id : CallId) (d : Configuration M)
-    (all : List (Configuration M)) (there : Contains all d) (other : CallId) (y : Configuration M) (s : IsStep Effect history c other y) where
-  -- the one step of a process is tried
-  pub only_covers : (process : ℕ) → other.process ≡ process → IsOnlyStep Effect history c process id d → IsAnswered Effect history all c other y
-  only_covers process own only = inl (subst (λ (x : Configuration M). Contains all x) (sym (only.only other y own s)) there)
-
+module _ {M : Type 0} (Effect : ObjectCall → M → M → Reply → Type 0) (history : List (Event ObjectCall Reply)) (c : Configuration M) (id : CallId) (d : Configuration M) where
   -- a silent call is tried
-  pub silent_covers : IsSilentStep Effect history c id d → IsAnswered Effect history all c other y
-  silent_covers silent = inr (inl (record { id = id; to = d; step = silent.0; silent = silent.1; there = there }))
+  pub silent_covers : (all : List (Configuration M)) → Contains all d → (other : CallId) (e : Configuration M) → IsSilentStep Effect history c id d → IsAnswered Effect history all c other e
+  silent_covers all there other e silent = inr (inl (record { id = id; to = d; step = silent.0; silent = silent.1; there = there }))
+
+  -- what was to be tried next is tried
+  pub attempt_covers : (processes : ℕ) (Led : List CallId → Configuration M → Type 0) (leads_on : LeadsOn Effect history Led) (start : Configuration M) (rows : Rows) (found : List (Configuration M)) (from next : ℕ) → IsAttempt Effect history rows found c from next id d →
+      (all later : List (Configuration M)) → all ≡ found ++ later → Contains all d → (other : CallId) (e : Configuration M) (call : ObjectCall) (begun : ℕ) → slice_get history begun ≡ Some (Begin other call) → from ≤ begun → begun < next →
+      IsStep Effect history c other e → IsAnswered Effect history all c other e
+  attempt_covers processes Led leads_on start rows found from next a all later is there other e call begun at le lt s =
+      elim (a.covers other e call begun at le lt s) [
+        | inl answered ↦ subst (λ (l : List (Configuration M)). IsAnswered Effect history l c other e) (sym is) (answered_grown Effect history processes Led leads_on start found later c other e answered)
+        | inr same ↦ inl (subst (λ (x : Configuration M). Contains all x) (sym same) there)
+      ]

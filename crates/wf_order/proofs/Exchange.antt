@@ -8,7 +8,7 @@ use Rattle.wf_history.specs.Legal.{HasBegun}
 use Rattle.wf_history.proofs.Positions.{same_call, contains_at, split_twice, places_of_split}
 use Rattle.wf_history.proofs.Once.{one_call}
 use Rattle.wf_order.specs.Steps.{Configuration, IsTaken, IsStep, Leads, none, more, IsDone}
-use Rattle.wf_order.specs.Rules.{EndsFirst, ComesFirst, ends, open_ones, IsSilent}
+use Rattle.wf_order.specs.Rules.{EndsFirst, ComesFirst, ends, open_ones, IsIdle, IsOpen, IsSilent}
 use Rattle.wf_order.proofs.Completeness.{before_own, ends_before}
 use Rattle.wf_order.proofs.Lists.{same_configuration}
 use Rattle.wf_order.proofs.Soundness.{taken_more, taken_not, taken_back}
@@ -244,3 +244,64 @@ module _ {State Call Reply : Type 0} (Effect : Call → State → State → Repl
       h.path h.done c.counts next_a next_b t.earlier t.counts in
       let there : d ≡ record { counts = set c.counts a.process a.number; state = e.state } = same_configuration s.counts both.0 in
       subst (λ (x : Configuration State). IsHopeful n x) (sym there) (subst (λ (m : ℕ). IsHopeful m (record { counts = set c.counts a.process a.number; state = e.state })) h.size r)
+
+  -- without a call that does not end
+  module _ (whole : IsHistory history) (x : CallId) (opened : IsOpen history x) where
+    not_behind_open : (a : CallId) → Before history x a → ⊥
+    not_behind_open a bef = let e = ends_before history bef in opened e.0 e.1
+
+    done_without : (counts taken : List ℕ) (s : State) → IsNext counts x → taken ≡ set counts x.process x.number → IsDone Effect history (record { counts = taken; state = s }) →
+        IsHopeful 0 (record { counts = counts; state = s })
+    done_without counts taken s next is done = record {
+      ids = [];
+      last = record { counts = counts; state = s };
+      path = none;
+      done = λ id reply ended. elim (taken_back counts x next.process next.number id (subst (λ (xs : List ℕ). IsTaken xs id) is (done id reply ended))) [
+        | inl old ↦ old
+        | inr same ↦ absurd (opened reply (subst (λ (i : CallId). Contains history (End i reply)) (sym same) ended))
+      ];
+      size = refl;
+    }
+
+    without_moved : {d e : Configuration State} {ids : List CallId} → Leads Effect history d ids e → IsDone Effect history e →
+        (counts : List ℕ) → IsNext counts x → d.counts ≡ set counts x.process x.number → IsHopeful (length ids) (record { counts = counts; state = d.state })
+    without_moved (none {c}) done counts next is = done_without counts c.counts c.state next is done
+    without_moved (more {c} {d} {e} {id} {ids} t l) done counts next is =
+        let number : id.number ≡ get_or (set counts x.process x.number) id.process 0 + 1 = t.number ∙ ap (λ (xs : List ℕ). get_or xs id.process 0 + 1) is in
+        let not_own : x.process ≡ id.process → ⊥ =
+        λ own.
+        let here : get_or (set counts x.process x.number) id.process 0 ≡ x.number = ap (λ (p : ℕ). get_or (set counts x.process x.number) p 0) (sym own) ∙ get_or-set_same counts x.process x.number 0 next.process in
+        let positive = next.number in
+        not_behind_open id (subst (λ (y : CallId). Before history y id) (same_call (record { process = id.process; number = x.number }) x (sym own) refl)
+        (before_own history whole id t.call x.number t.begun (omega (arith, positive)) (omega (arith, number, here)))) in
+        let size : length c.counts ≡ length counts = ap length is ∙ length-set counts x.process x.number in
+        let process = t.process in
+        let within : id.process < length counts = omega (arith, size, process) in
+        let own_number : id.number ≡ get_or counts id.process 0 + 1 = number ∙ ap (λ (n : ℕ). n + 1) (get_or-set_other counts x.process id.process x.number 0 (λ e. not_own (sym e))) in
+        let step : IsStep Effect history (record { counts = counts; state = c.state }) id (record { counts = set counts id.process id.number; state = d.state }) =
+        record {
+          call = t.call;
+          begun = t.begun;
+          process = within;
+          number = own_number;
+          earlier = λ a bef. elim (taken_back counts x next.process next.number a (subst (λ (xs : List ℕ). IsTaken xs a) is (t.earlier a bef))) [
+            | inl old ↦ old
+            | inr same ↦ absurd (not_behind_open id (subst (λ (y : CallId). Before history y id) (sym same) bef))
+          ];
+          reply = t.reply;
+          effect = t.effect;
+          agrees = t.agrees;
+          counts = refl;
+        } in
+        let there : d.counts ≡ set (set counts id.process id.number) x.process x.number =
+        t.counts ∙ ap (λ (xs : List ℕ). set xs id.process id.number) is ∙ set_swap counts x.process id.process x.number id.number not_own in
+        let r = without_moved l done (set counts id.process id.number) (next_kept counts x id not_own next) there in
+        hope_more (length ids) _ _ id step r
+
+  -- Law: of a configuration that a call leads to which does not end and leaves the state, and from which steps lead to one that
+  -- is done, the one before goes on, too.
+  pub without_idle : (whole : IsHistory history) (n : ℕ) (c d : Configuration State) (id : CallId) → IsStep Effect history c id d → IsIdle Effect history c id d → IsHopeful n d → IsHopeful n c
+  without_idle whole n c d id s idle h =
+      let r = without_moved whole id idle.opened h.path h.done c.counts (record { process = s.process; number = s.number }) s.counts in
+      let there : ◌≡◌ {A = Configuration State} (record { counts = c.counts; state = d.state }) c = same_configuration refl (sym idle.same) in
+      subst (λ (y : Configuration State). IsHopeful n y) there (subst (λ (k : ℕ). IsHopeful k (record { counts = c.counts; state = d.state })) h.size r)

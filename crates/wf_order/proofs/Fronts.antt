@@ -17,7 +17,7 @@ use Rattle.wf_order.specs.declared.search.Frame.{Frame}
 use Rattle.wf_order.specs.declared.seen.Found.{Found}
 use Rattle.wf_order.specs.Fronts.{AreFramed, AreSized, EndsBefore, IsFarthest, IsFresh}
 use Rattle.wf_order.specs.Rows.{AreRows, call_at, ended_rows, row_of}
-use Rattle.wf_order.specs.Rules.{ComesFirst, ends, open_ones, IsAnswered, IsBehind, IsSilent}
+use Rattle.wf_order.specs.Rules.{ComesFirst, ends, open_ones, IsAnswered, IsBehind, IsOpen, IsSilent}
 use Rattle.wf_order.specs.Search.{found_in, IsLed, IsSearch, IsWholeSearch}
 use Rattle.wf_order.specs.Steps.{Configuration, IsTaken, IsLimit, IsStep, Leads, none, more, start_at}
 use Rattle.wf_order.specs.Turns.{BeginsFrom}
@@ -196,6 +196,9 @@ module _ {M : Type 0} (Effect : ObjectCall → M → M → Reply → Type 0) (hi
           first = first_front Effect history are.whole count b.sooner id (ends_early c b.to b.sooner history before b.step) b.first;
         }
 
+    open_front : (id : CallId) → IsOpen history id → IsOpen (take count history) id
+    open_front id opened reply ended = opened reply (of_front Effect history are.whole count (End id reply) ended)
+
     answered_front : (c d : Configuration M) (id : CallId) → Contains found c → EndsBefore rows c.counts count → IsStep Effect (take count history) c id d → IsAnswered Effect history found c id d → IsAnswered Effect (take count history) found c id d
     answered_front c d id in_found before s answered =
         elim answered [
@@ -208,7 +211,10 @@ module _ {M : Type 0} (Effect : ObjectCall → M → M → Reply → Type 0) (hi
               silent = silent_front Effect history are.whole count forced.id (ends_early c forced.to forced.id history before forced.step) forced.silent;
               there = forced.there;
             }))
-            | inr behind ↦ inr (inr (behind_front c d id in_found before s behind))
+            | inr others ↦ inr (inr (elim others [
+              | inl behind ↦ inl (behind_front c d id in_found before s behind)
+              | inr idle ↦ inr (record { opened = open_front id idle.opened; same = idle.same })
+            ]))
           ]
         ]
 

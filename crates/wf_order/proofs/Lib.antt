@@ -1,4 +1,5 @@
 pub mod Arriving
+pub mod Attempts
 pub mod Beginnings
 pub mod Bounds
 pub mod Completeness

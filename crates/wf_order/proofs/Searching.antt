@@ -18,7 +18,7 @@ use Rattle.wf_order.specs.Verdict.{HasLegal}
 use Rattle.wf_order.specs.Rules.{ComesFirst, ends, open_ones, IsOpen, IsBehind, IsAnswered}
 use Rattle.wf_order.specs.Search.{ids_of, IsLed, IsSearch, LeadsOn}
 use Rattle.wf_order.specs.Turns.{BeginsFrom}
-use Rattle.wf_order.proofs.Exchange.{IsHopeful, hope_more, silent_first, alike_first}
+use Rattle.wf_order.proofs.Exchange.{IsHopeful, hope_more, silent_first, alike_first, without_idle}
 use Rattle.wf_order.proofs.Soundness.{sound}
 use Rattle.wf_order.proofs.Completeness.{complete, none_taken}
 
@@ -66,7 +66,10 @@ module _ {State Call Reply : Type 0} (Effect : Call → State → State → Repl
           | inl seen ↦ shorter d seen h
           | inr rules ↦ elim rules [
             | inl forced ↦ shorter forced.to forced.there (silent_first Effect history forced.id forced.silent n c forced.to (hope_more Effect history n c d id s h) forced.step)
-            | inr behind ↦ go behind (alike_first Effect history whole determined n c behind.to d id s h behind.sooner behind.call behind.step behind.same behind.own behind.first)
+            | inr others ↦ elim others [
+              | inl behind ↦ go behind (alike_first Effect history whole determined n c behind.to d id s h behind.sooner behind.call behind.step behind.same behind.own behind.first)
+              | inr idle ↦ shorter c in_found (without_idle Effect history whole n c d id s idle h)
+            ]
           ]
         ]
 
@@ -99,13 +102,13 @@ module _ {State Call Reply : Type 0} (Effect : Call → State → State → Repl
 module _ {State Call Reply : Type 0} (Effect : Call → State → State → Reply → Type 0) (history : List (Event Call Reply)) (processes : ℕ)
     (Led : List CallId → Configuration State → Type 0) (leads_on : LeadsOn Effect history Led) (start : Configuration State) where
   -- what was answered stays so, where more is found
-  answered_grown : (found : List (Configuration State)) (d c : Configuration State) (id : CallId) (e : Configuration State) → IsAnswered Effect history found c id e → IsAnswered Effect history (found ++ d ∷ []) c id e
-  answered_grown found d c id e h =
+  pub answered_grown : (found later : List (Configuration State)) (c : Configuration State) (id : CallId) (e : Configuration State) → IsAnswered Effect history found c id e → IsAnswered Effect history (found ++ later) c id e
+  answered_grown found later c id e h =
       elim h [
-        | inl seen ↦ inl (Contains-append_left found (d ∷ []) e seen)
+        | inl seen ↦ inl (Contains-append_left found later e seen)
         | inr rules ↦ elim rules [
-          | inl forced ↦ inr (inl (record { id = forced.id; to = forced.to; step = forced.step; silent = forced.silent; there = Contains-append_left found (d ∷ []) forced.to forced.there }))
-          | inr behind ↦ inr (inr behind)
+          | inl forced ↦ inr (inl (record { id = forced.id; to = forced.to; step = forced.step; silent = forced.silent; there = Contains-append_left found later forced.to forced.there }))
+          | inr others ↦ inr (inr others)
         ]
       ]
 
@@ -166,10 +169,11 @@ module _ {State Call Reply : Type 0} (Effect : Call → State → State → Repl
           only_at zero c e = same_Some start c e
           only_at (suc k) c e = absurd (cc)
 
-  -- nothing is left for the frame to be tried
-  pub popped : (found : List (Configuration State)) (xs : List Frame) (f : Frame) → IsSearch Effect history processes Led start found (xs ++ f ∷ []) →
-      ((c d : Configuration State) (id : CallId) → slice_get found f.place ≡ Some c → IsStep Effect history c id d → BeginsFrom history f.next id → ⊥) → IsSearch Effect history processes Led start found xs
-  popped found xs f h all = record {
+  -- all that the frame had to try was tried, or need not be
+  pub popped_answered : (found : List (Configuration State)) (xs : List Frame) (f : Frame) → IsSearch Effect history processes Led start found (xs ++ f ∷ []) →
+      ((c d : Configuration State) (id : CallId) → slice_get found f.place ≡ Some c → IsStep Effect history c id d → BeginsFrom history f.next id → IsAnswered Effect history found c id d) →
+      IsSearch Effect history processes Led start found xs
+  popped_answered found xs f h all = record {
     start_found = h.start_found;
     sizes = h.sizes;
     led = led_front found xs (f ∷ []) h.led;
@@ -182,7 +186,7 @@ module _ {State Call Reply : Type 0} (Effect : Call → State → State → Repl
               elim (Contains-push_cases xs f undone.0 undone.1) [
                 | inl old ↦ inr (undone.0, old, undone.2, undone.3)
                 | inr same ↦
-                    absurd (all c d id (ap (λ (x : Frame). slice_get found x.place) same ∙ undone.2) s
+                    inl (all c d id (ap (λ (x : Frame). slice_get found x.place) same ∙ undone.2) s
                     (subst (λ (n : ℕ). BeginsFrom history n id) (sym (ap (λ (x : Frame). x.next) same)) undone.3))
               ]
         ];
@@ -262,7 +266,7 @@ module _ {State Call Reply : Type 0} (Effect : Call → State → State → Repl
       next = λ x y id in_found s. elim (Contains-push_cases found d x in_found) [
         | inl old ↦
             elim (h.next x y id old s) [
-              | inl seen ↦ inl (answered_grown found d x id y seen)
+              | inl seen ↦ inl (answered_grown found (d ∷ []) x id y seen)
               | inr still ↦
                   elim (Contains-push_cases xs f still.0 still.1) [
                     | inl below ↦ inr (still.0, Contains-append_left (xs ++ g ∷ []) (new ∷ []) still.0 (Contains-append_left xs (g ∷ []) still.0 below), place_left found (d ∷ []) still.0.place x still.2, still.3)

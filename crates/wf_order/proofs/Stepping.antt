@@ -26,7 +26,7 @@ module _ {M : Type 0} (Effect : ObjectCall → M → M → Reply → Type 0)
   none_past le id d own s = let lt = s.process in omega (arith, lt)
 
   module _ (k : ℕ) (is : k ≡ get_or c.counts process 0) where
-    next_id : (id : CallId) (d : Configuration M) → id.process ≡ process → IsStep Effect history c id d → id ≡ call_at process k
+    pub next_id : (id : CallId) (d : Configuration M) → id.process ≡ process → IsStep Effect history c id d → id ≡ call_at process k
     next_id id d own s =
         let number = s.number in
         let same : get_or c.counts id.process 0 ≡ get_or c.counts process 0 = ap (λ (q : ℕ). get_or c.counts q 0) own in
@@ -54,7 +54,7 @@ module _ {M : Type 0} (Effect : ObjectCall → M → M → Reply → Type 0)
       own_call_is id d own s =
           one_call history are.whole (call_at process k) s.call (seen_call b.call) (subst (λ (i : CallId). HasBegun history i s.call) (next_id id d own s) s.begun) has_begun_here
 
-      own_effect : (id : CallId) (d : Configuration M) → id.process ≡ process → (s : IsStep Effect history c id d) → Effect (seen_call b.call) c.state d.state s.reply
+      pub own_effect : (id : CallId) (d : Configuration M) → id.process ≡ process → (s : IsStep Effect history c id d) → Effect (seen_call b.call) c.state d.state s.reply
       own_effect id d own s = subst (λ (x : ObjectCall). Effect x c.state d.state s.reply) (own_call_is id d own s) s.effect
 
       -- the reply that is known

@@ -118,7 +118,7 @@ same_begin a b x y e = cc
 module _ {M : Type 0} (Effect : ObjectCall → M → M → Reply → Type 0) (history : List (Event ObjectCall Reply)) (rows : Rows) (c : Configuration M) (are : AreRows history (length c.counts) rows)
     (limit : ℕ) (bound : IsLimit history c.counts limit) where
   -- a step's call is its process's next one, and begins before the limit
-  next_is : (id : CallId) (d : Configuration M) → IsStep Effect history c id d → (call : ObjectCall) (place : ℕ) → slice_get history place ≡ Some (Begin id call) →
+  pub next_is : (id : CallId) (d : Configuration M) → IsStep Effect history c id d → (call : ObjectCall) (place : ℕ) → slice_get history place ≡ Some (Begin id call) →
       (b : Begun) × IsNext rows c.counts id.process b × (b.place ≡ place) × (place < limit)
   next_is id d s call place at =
       let every = are.every_begun id s.call s.begun in

@@ -75,6 +75,15 @@ module _ {State Call Reply : Type 0} (Effect : Call → State → State → Repl
   abbrev pub AreBehind : Configuration State → ℕ → Type 0
   AreBehind c process = (id : CallId) (d : Configuration State) → id.process ≡ process → IsStep Effect history c id d → IsBehind c id
 
+  -- the call does not end, and leaves the state as it is: what comes behind it comes without it too
+  pub record IsIdle (c : Configuration State) (id : CallId) (d : Configuration State) : Type 0 where
+    pub opened : IsOpen history id
+    pub same : c.state ≡ d.state
+
+  -- no step by a call of the process need be tried
+  abbrev pub AreIdle : Configuration State → ℕ → Type 0
+  AreIdle c process = (id : CallId) (d : Configuration State) → id.process ≡ process → IsStep Effect history c id d → IsIdle c id d
+
   -- the step was tried, or need not be
   abbrev pub IsAnswered : List (Configuration State) → Configuration State → CallId → Configuration State → Type 0
-  IsAnswered found c id d = Contains found d ⊎ (IsForced found c ⊎ IsBehind c id)
+  IsAnswered found c id d = Contains found d ⊎ (IsForced found c ⊎ (IsBehind c id ⊎ IsIdle c id d))

@@ -1,13 +1,14 @@
 -- What a search has found so far.
-use Rattle.std.specs.Prelude.{◌≡◌, ℕ, zero, suc, ◌+◌, ◌-◌, ◌*◌, ◌<◌, List, [], ◌∷◌, ◌++◌, map, length, get_or, slice_get, Option, Some, None, Bool, true, false, IfSome, Contains, ◌⊎◌}
+use Rattle.std.specs.Prelude.{◌≡◌, ℕ, zero, suc, ◌+◌, ◌-◌, ◌*◌, ◌<◌, ◌≤◌, List, [], ◌∷◌, ◌++◌, map, length, get_or, slice_get, Option, Some, None, Bool, true, false, IfSome, Contains, ◌⊎◌}
 use Rattle.std.proofs.Common.{take}
 use Rattle.wf_history.specs.declared.event.CallId.{CallId}
 use Rattle.ob_interface.specs.Call.{ObjectCall, Reply}
-use Rattle.wf_history.specs.History.{Event}
+use Rattle.wf_history.specs.History.{Event, Begin}
 use Rattle.wf_history.specs.Legal.{IsLegal}
 use Rattle.wf_history.specs.View.{seen_call, seen_reply}
 use Rattle.ob_interface.specs.View.{reply_of}
 use Rattle.std.specs.HashSet.{HashSet}
+use Rattle.wf_order.specs.declared.attempt.Told.{Told}
 use Rattle.wf_order.specs.declared.search.Answer.{Answer}
 use Rattle.wf_order.specs.declared.search.Answer.TheVariants as Answers
 use Rattle.wf_order.specs.declared.search.Frame.{Frame}
@@ -62,6 +63,10 @@ IsOutcome {State} {Reply} Effect before known None = (after : State) × (reply :
 abbrev pub IsMade : {State Meaning : Type 0} → (State → Meaning) → (ObjectCall → Meaning → Meaning → Reply → Type 0) → Meaning → Made State → Type 0
 IsMade meaning Effect before made = Effect (seen_call made.call) before (meaning made.state) (reply_of made.reply)
 
+-- the call, made on the state, replies so
+abbrev pub IsTold : {M : Type 0} → (ObjectCall → M → M → Reply → Type 0) → M → Told → Type 0
+IsTold {M} Effect before told = (after : M) × Effect (seen_call told.call) before after (reply_of told.reply)
+
 -- the next call of the process, with its end, may be taken, and leaves each state as it is
 pub record IsSilentCall {M : Type 0} (Effect : ObjectCall → M → M → Reply → Type 0) (rows : Rows) (counts : List ℕ) (limit process : ℕ) (begun : Begun) (ended : Ended) : Type 0 where
   pub within : process < length counts
@@ -83,6 +88,27 @@ module _ {State Call Reply : Type 0} (Effect : Call → State → State → Repl
     pub own : id.process ≡ process
     pub step : IsStep Effect history c id d
     pub only : (other : CallId) (e : Configuration State) → other.process ≡ process → IsStep Effect history c other e → e ≡ d
+
+  -- each step by a call of the process was tried, or need not be
+  abbrev pub AreAnswered : List (Configuration State) → Configuration State → ℕ → Type 0
+  AreAnswered found c process = (id : CallId) (d : Configuration State) → id.process ≡ process → IsStep Effect history c id d → IsAnswered Effect history found c id d
+
+  -- the same of those whose calls begin at a place or behind it
+  abbrev pub AreAllAnswered : List (Configuration State) → Configuration State → ℕ → Type 0
+  AreAllAnswered found c from = (id : CallId) (d : Configuration State) → IsStep Effect history c id d → BeginsFrom history from id → IsAnswered Effect history found c id d
+
+  -- and of those whose calls begin from the one place up to the other
+  abbrev pub AreCovered : List (Configuration State) → Configuration State → (from next : ℕ) → Type 0
+  AreCovered found c from next =
+      (id : CallId) (d : Configuration State) (call : Call) (begun : ℕ) → slice_get history begun ≡ Some (Begin id call) → from ≤ begun → begun < next → IsStep Effect history c id d → IsAnswered Effect history found c id d
+
+  -- The step is the next to be tried: those whose calls begin from the one place up to the other were tried, or need not be, or
+  -- lead there too.
+  pub record IsAttempt (rows : Rows) (found : List (Configuration State)) (c : Configuration State) (from next : ℕ) (id : CallId) (d : Configuration State) : Type 0 where
+    pub step : IsStep Effect history c id d
+    pub fewer : turns next (begun_rows rows) c.counts + 1 ≤ turns from (begun_rows rows) c.counts
+    pub covers : (other : CallId) (e : Configuration State) (call : Call) (begun : ℕ) → slice_get history begun ≡ Some (Begin other call) → from ≤ begun → begun < next → IsStep Effect history c other e →
+        IsAnswered Effect history found c other e ⊎ (e ≡ d)
 
   -- the calls lead from the start to the configuration, or, where that is not asked, some calls do
   abbrev pub IsLed : Bool → Configuration State → List CallId → Configuration State → Type 0

@@ -7,6 +7,7 @@
 //! and `process_count`. In which order steps are tried, and which open calls are left out where not all can be, may change without asking.
 #![tactic(auto)]
 
+mod attempt;
 mod behind;
 pub mod copying;
 pub mod find;

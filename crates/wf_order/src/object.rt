@@ -13,6 +13,7 @@ pub type Words = SmallVec<u64, 2>;
 pub trait Object {
     ghost use Rattle.std.specs.Prelude.{◌≡◌, ℕ, List, IfOk, IsTrue};
     ghost use Rattle.ob_interface.specs.Call.{ObjectCall, Reply};
+    ghost use Rattle.ob_interface.specs.Call.{Reply as AnyReply};
     ghost use Rattle.ob_interface.specs.View.{reply_of};
     ghost use Rattle.wf_history.specs.View.{seen_call, seen_reply};
 
@@ -54,6 +55,11 @@ pub trait Object {
     /// that does, a search takes longer, and answers as well.
     fn is_silent(&self, call: SeenCall, reply: SeenReply) -> bool
         ensures { IsTrue result → (before after : Meaning) → effect self.now (seen_call call.entry) before after (seen_reply reply.entry) → before ≡ after };
+
+    /// Whether a call leaves the state as it is, whatever the state and the reply. Where it says no of a call that does, a search
+    /// takes longer, and answers as well.
+    fn is_reader(&self, call: SeenCall) -> bool
+        ensures { IsTrue result → (before after : Meaning) (reply : AnyReply) → effect self.now (seen_call call.entry) before after reply → before ≡ after };
 
     /// A call has one outcome.
     ghost determined: { (object : Self) (call : ObjectCall) (before after other : Meaning) (reply answer : Reply)

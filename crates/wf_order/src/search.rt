@@ -11,12 +11,11 @@ ghost use Rattle.wf_order.specs.Rows.{AreRows};
 ghost use Rattle.wf_order.specs.Search.{found_in, all_found, ids_of, AreWorded, IsWorded, IsArrival, IsGrown, IsSearch, IsAnswer, IsWholeSearch, IsLed, work};
 ghost use Rattle.wf_order.specs.Steps.{Configuration, IsDone, start_at};
 
-use crate::behind::is_behind;
+use crate::attempt::{Attempt, next_attempt};
 use crate::object::Object;
 use crate::rows::limit_of;
 use crate::seen::{Found, Seen};
-use crate::step::{Here, Task, any_silent_step, step};
-use crate::turn::next_turn;
+use crate::step::{Here, Task, any_silent_step};
 use ob_interface::NoMemory;
 use smallvec::SmallVec;
 use std::alloc::Global;
@@ -123,37 +122,17 @@ pub(crate) fn advance<O: Object>(
             return arrive(task, seen, stack, there);
         }
     }
-    let turn = next_turn(task.rows, &here.found.counts, frame.next, limit);
-    if turn.place >= limit {
-        return Ok(None);
-    }
-    let next = turn.place + 1;
-    let id = frame.id;
-    if is_behind(task, &here, turn.process)? {
-        stack.push(Frame {
-            place,
-            next,
-            id,
-            limit,
-        })?;
-        return Ok(None);
-    }
-    let Some((id, there)) = step(task, &here, turn.process)? else {
-        stack.push(Frame {
-            place,
-            next,
-            id,
-            limit,
-        })?;
+    let Some(attempt) = next_attempt(task, &here, frame.next)? else {
         return Ok(None);
     };
+    let Attempt { next, id, to } = attempt;
     stack.push(Frame {
         place,
         next,
         id,
         limit,
     })?;
-    arrive(task, seen, stack, there)
+    arrive(task, seen, stack, to)
 }
 
 /// The configuration in which no call of so many processes is taken.

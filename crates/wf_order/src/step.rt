@@ -162,7 +162,7 @@ fn made_by<'a, O: Object>(
 }
 
 /// The next call of a process, and its end, where it is silent and may be taken.
-fn silent_call<'a, O: Object>(
+pub(crate) fn silent_call<'a, O: Object>(
     task: &Task<'_, 'a, O>,
     here: &Here<O::State>,
     process: usize,

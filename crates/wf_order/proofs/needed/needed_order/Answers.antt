@@ -1,5 +1,5 @@
 -- From the order to its calls, and back; or all of it, where no call is open.
-use Rattle.std.proofs.Common.{◌≡◌, ◌∙◌, List, ap, subst, sym}
+use Rattle.std.proofs.Common.{◌∙◌, List, ap, subst, sym}
 use Rattle.std.proofs.lemmas.Option.{MatchOption-at_none, MatchOption-at_some}
 use Rattle.std.proofs.lemmas.Result.{IfOk-weaker}
 use Rattle.ob_interface.specs.Call.{ObjectCall, Reply}
@@ -9,7 +9,7 @@ use Rattle.wf_history.specs.declared.event.CallId.{CallId}
 use Rattle.wf_order.proofs.Legality.{begun_of, ended_needed, kept_left, kept_legal, kept_needed, listed_ids, order_replays}
 use Rattle.wf_order.proofs.needed.needed_order.Goals as goal
 use Rattle.wf_order.specs.Listed.{AreListed, NoneIsOpen, ids_of}
-use Rattle.wf_order.specs.Needed.{IsOpen, LeavesOut, NoneIsNeedless, nothing}
+use Rattle.wf_order.specs.Needed.{NoneIsNeedless, nothing}
 
 pub listed_all-requires-clause-history : goal.listed_all-requires-clause-history
 listed_all-requires-clause-history g c = subst (λ (es : List (Event ObjectCall Reply)). IsHistory es) (sym c.events.ensures.value) c.events.ensures.in_turn

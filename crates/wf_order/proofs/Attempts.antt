@@ -1,0 +1,90 @@
+-- What is tried next, and what was tried before.
+use Rattle.std.proofs.Common.{◌≡◌, sym, subst, ℕ, ◌+◌, ◌<◌, ◌≤◌, List, length, get_or, Some, None, arith, inl, inr}
+use Rattle.std.proofs.lemmas.Bool.{cases_lt}
+use Rattle.std.specs.List.{slice_get}
+use Rattle.ob_interface.specs.Call.{ObjectCall, Reply}
+use Rattle.wf_history.specs.declared.event.CallId.{CallId}
+use Rattle.wf_history.specs.History.{Event, Begin}
+use Rattle.wf_history.specs.View.{seen_call}
+use Rattle.wf_order.specs.declared.rows.Begun.{Begun}
+use Rattle.wf_order.specs.declared.rows.Rows.{Rows}
+use Rattle.wf_order.specs.declared.turn.Turn.{Turn}
+use Rattle.wf_order.specs.Rows.{AreRows, begun_rows, ended_rows, row_of}
+use Rattle.wf_order.specs.Rules.{AreBehind, AreIdle, IsOpen}
+use Rattle.wf_order.specs.Search.{AreAllAnswered, AreAnswered, AreCovered, HasNoStep, IsAttempt, IsOnlyStep}
+use Rattle.wf_order.specs.Steps.{Configuration, IsLimit, IsStep}
+use Rattle.wf_order.specs.Turns.{IsFirstTurn, turns}
+use Rattle.wf_order.proofs.Replacing.{open_in}
+use Rattle.wf_order.proofs.Stepping.{next_id, own_effect}
+use Rattle.wf_order.proofs.Turning.{fewer_left, next_is, none_left, of_turn}
+
+module _ {M : Type 0} (Effect : ObjectCall → M → M → Reply → Type 0) (history : List (Event ObjectCall Reply)) (found : List (Configuration M)) (c : Configuration M) (process : ℕ) where
+  pub none_answered : HasNoStep Effect history c process → AreAnswered Effect history found c process
+  none_answered none id d own s = absurd (none id d own s)
+
+  pub behind_answered : AreBehind Effect history c process → AreAnswered Effect history found c process
+  behind_answered behind id d own s = inr (inr (inl (behind id d own s)))
+
+  pub idle_answered : AreIdle Effect history c process → AreAnswered Effect history found c process
+  idle_answered idle id d own s = inr (inr (inr (idle id d own s)))
+
+-- the next call never ends, and leaves each state as it is
+pub idle_from : {M : Type 0} (Effect : ObjectCall → M → M → Reply → Type 0)
+    (determined : (call : ObjectCall) (before after other : M) (reply answer : Reply) → Effect call before after reply → Effect call before other answer → (after ≡ other) × (reply ≡ answer))
+    (history : List (Event ObjectCall Reply)) (rows : Rows) (c : Configuration M) (are : AreRows history (length c.counts) rows) (limit : ℕ) (bound : IsLimit history c.counts limit) (process k : ℕ) (is : k ≡ get_or c.counts process 0)
+    (b : Begun) → slice_get (row_of (begun_rows rows) process) k ≡ Some b → slice_get (row_of (ended_rows rows) process) k ≡ None →
+    ((before after : M) (reply : Reply) → Effect (seen_call b.call) before after reply → before ≡ after) → AreIdle Effect history c process
+idle_from Effect determined history rows c are limit bound process k is b at none leaves id d own s = record {
+  opened = subst (λ (i : CallId). IsOpen history i) (sym (next_id Effect determined history rows c are limit bound process k is id d own s)) (open_in history (length c.counts) rows are process k none);
+  same = leaves c.state d.state s.reply (own_effect Effect determined history rows c are limit bound process k is b at id d own s);
+}
+
+module _ {M : Type 0} (Effect : ObjectCall → M → M → Reply → Type 0) (history : List (Event ObjectCall Reply)) (rows : Rows) (found : List (Configuration M)) (c : Configuration M) (are : AreRows history (length c.counts) rows)
+    (limit : ℕ) (bound : IsLimit history c.counts limit) (from : ℕ) where
+  pub covered_none : AreCovered Effect history found c from from
+  covered_none id d call begun at le lt s = absurd (omega (arith, le, lt))
+
+  module _ (start : ℕ) (covered : AreCovered Effect history found c from start) where
+    -- where there is no turn behind the limit
+    pub all_covered : limit ≤ start → AreAllAnswered Effect history found c from
+    all_covered past id d s begins =
+        let n = next_is Effect history rows c are limit bound id d s begins.call begins.place begins.at in
+        let lt = n.3 in
+        covered id d begins.call begins.place begins.at begins.behind (omega (arith, past, lt)) s
+
+    module _ (turn : Turn) (first : IsFirstTurn rows c.counts start limit turn) where
+      -- where there is none
+      pub all_tried : limit ≤ turn.place → AreAllAnswered Effect history found c from
+      all_tried past id d s begins =
+          elim (cases_lt begins.place start) [
+            | inl lt ↦ covered id d begins.call begins.place begins.at begins.behind lt s
+            | inr ge ↦ absurd (none_left Effect history rows c are limit bound start turn first past id d s (record { call = begins.call; place = begins.place; at = begins.at; behind = ge }))
+          ]
+
+      module _ (early : turn.place < limit) where
+        of_its_process : (id : CallId) (d : Configuration M) (call : ObjectCall) (begun : ℕ) → slice_get history begun ≡ Some (Begin id call) → start ≤ begun → begun < turn.place + 1 → IsStep Effect history c id d → id.process ≡ turn.process
+        of_its_process = of_turn Effect history rows c are limit bound start turn first early
+
+        -- behind the turn
+        pub covered_more : AreAnswered Effect history found c turn.process → AreCovered Effect history found c from (turn.place + 1)
+        covered_more answered id d call begun at le lt s =
+            elim (cases_lt begun start) [
+              | inl less ↦ covered id d call begun at le less s
+              | inr ge ↦ answered id d (of_its_process id d call begun at ge lt s) s
+            ]
+
+        -- fewer turns are left
+        pub turns_left : turns start (begun_rows rows) c.counts ≤ turns from (begun_rows rows) c.counts → turns (turn.place + 1) (begun_rows rows) c.counts + 1 ≤ turns from (begun_rows rows) c.counts
+        turns_left few = let less = fewer_left Effect history rows c are limit bound start turn first early in omega (arith, few, less)
+
+        pub attempt : turns start (begun_rows rows) c.counts ≤ turns from (begun_rows rows) c.counts → (id : CallId) (to : Configuration M) → IsOnlyStep Effect history c turn.process id to →
+            IsAttempt Effect history rows found c from (turn.place + 1) id to
+        attempt few id to only = record {
+          step = only.step;
+          fewer = turns_left few;
+          covers = λ other e call begun at le lt s.
+              elim (cases_lt begun start) [
+                | inl less ↦ inl (covered other e call begun at le less s)
+                | inr ge ↦ inr (only.only other e (of_its_process other e call begun at ge lt s) s)
+              ];
+        }

@@ -1,0 +1,65 @@
+-- By the turns, one after the other.
+use Rattle.std.proofs.Common.{subst, ℕ, ◌<◌, List, arith}
+use Rattle.std.proofs.lemmas.Option.{MatchOption-at_none, MatchOption-at_some}
+use Rattle.wf_order.specs.Search.{found_in, AreAnswered, IsOnlyStep}
+use Rattle.wf_order.specs.Turns.{IsFirstTurn}
+use Rattle.wf_order.proofs.Attempts.{all_covered, all_tried, attempt, covered_more, covered_none, turns_left}
+use Rattle.wf_order.proofs.attempt.next_attempt.Goals as goal
+
+pub loop-start-init : goal.loop-start-init
+loop-start-init g c = (
+  tt,
+  λ history found at. (
+    covered_none (g.O.Object.effect c.args.task.now.object.now) history c.args.task.now.rows.now found (found_in g.O.Object.meaning c.args.here.now.found.now) at.0 c.args.here.now.limit at.1 c.args.from,
+    omega arith,
+  ),
+)
+
+pub told_at-requires : goal.told_at-requires
+told_at-requires g c = c.loop-start.invariant.0
+
+pub returns-then-turn-limit-clause-next : goal.returns-then-turn-limit-clause-next
+returns-then-turn-limit-clause-next g c = λ history found at.
+    let here = found_in g.O.Object.meaning c.args.here.now.found.now in
+    let limit = c.args.here.now.limit in
+    let turn = c.next_turn-turn.result in
+    let first = subst (λ (l : List ℕ). IsFirstTurn c.args.task.now.rows.now l c.loop-start.start limit turn) c.deref.ensures c.next_turn-turn.ensures in
+    all_tried (g.O.Object.effect c.args.task.now.object.now) history c.args.task.now.rows.now found here at.0 limit at.1 c.args.from
+    c.loop-start.start (c.loop-start.invariant.1 history found at).0 turn first c.if-turn-limit.true
+
+pub returns-in-Some-clause-next : goal.returns-in-Some-clause-next
+returns-in-Some-clause-next g c = λ history found at.
+    let effect = g.O.Object.effect c.args.task.now.object.now in
+    let view = found_in g.O.Object.meaning in
+    let here = view c.args.here.now.found.now in
+    let limit = c.args.here.now.limit in
+    let turn = c.next_turn-turn.result in
+    let first = subst (λ (l : List ℕ). IsFirstTurn c.args.task.now.rows.now l c.loop-start.start limit turn) c.deref.ensures c.next_turn-turn.ensures in
+    let early : turn.place < limit = let f = c.if-turn-limit.false in omega (arith, f) in
+    let covered = c.loop-start.invariant.1 history found at in
+    let only = MatchOption-at_some (AreAnswered effect history found here turn.process) (λ to. IsOnlyStep effect history here turn.process to.0 (view to.1)) (c.in-Some.id, c.in-Some.to) c.in-Some.is (c.in_ok-id.ensures.tried history found at c.in_ok-told.ensures) in
+    attempt effect history c.args.task.now.rows.now found here at.0 limit at.1 c.args.from c.loop-start.start covered.0 turn first early covered.1 c.in-Some.id (view c.in-Some.to) only
+
+pub loop-start-preserved : goal.loop-start-preserved
+loop-start-preserved g c = (
+  c.in_ok-told.ensures,
+  λ history found at.
+      let effect = g.O.Object.effect c.args.task.now.object.now in
+      let view = found_in g.O.Object.meaning in
+      let here = view c.args.here.now.found.now in
+      let limit = c.args.here.now.limit in
+      let turn = c.next_turn-turn.result in
+      let first = subst (λ (l : List ℕ). IsFirstTurn c.args.task.now.rows.now l c.loop-start.start limit turn) c.deref.ensures c.next_turn-turn.ensures in
+      let early : turn.place < limit = let f = c.if-turn-limit.false in omega (arith, f) in
+      let covered = c.loop-start.invariant.1 history found at in
+      let answered = MatchOption-at_none (AreAnswered effect history found here turn.process) (λ to. IsOnlyStep effect history here turn.process to.0 (view to.1)) c.in-None.is (c.in_ok-id.ensures.tried history found at c.in_ok-told.ensures) in
+      let left = turns_left effect history c.args.task.now.rows.now found here at.0 limit at.1 c.args.from c.loop-start.start covered.0 turn first early covered.1 in (
+        covered_more effect history c.args.task.now.rows.now found here at.0 limit at.1 c.args.from c.loop-start.start covered.0 turn first early answered,
+        omega (arith, left),
+      ),
+)
+
+pub returns-clause-next : goal.returns-clause-next
+returns-clause-next g c = λ history found at.
+    all_covered (g.O.Object.effect c.args.task.now.object.now) history c.args.task.now.rows.now found (found_in g.O.Object.meaning c.args.here.now.found.now) at.0 c.args.here.now.limit at.1 c.args.from
+    c.loop-start.start (c.loop-start.invariant.1 history found at).0 (let past = c.loop-start-test.false in omega (arith, past))
