@@ -81,9 +81,10 @@ with which values (docs/FORMATS.md).
 trap 5: no turn is left. A turn is one execution of a loop's statements, or one
 call of a procedure in the text. With each command that makes calls, each call
 of the script has 100,000 turns, or as many as `-b` says, up to a million; with
-`-b 3` the calls below have three. At trap 5 look for a loop without an end,
-give the call more turns, or split the work over several calls: what one call
-leaves the next one finds.
+`-b 3` the calls below have three.
+
+At trap 5 look for a loop without an end, give the call more turns, or split
+the work over several calls: what one call leaves the next one finds.
 
   MODULE M; PROCEDURE P*; BEGIN WHILE TRUE DO END END P; END M.
     0 P
