@@ -10,6 +10,7 @@ ghost use Rattle.ob_text_reading.specs.Names.{MayCome, events_of};
 ghost use Rattle.ob_text_reading.specs.Reading.{FindsProcess, Leads, LeadsAs, NamesCalls, at_stage, at_start, event_said, is_opened, place};
 ghost use Rattle.ob_text_reading.specs.HistoryContents.{heard_of};
 ghost use Rattle.ob_text_reading.specs.declared.kind.LineKind.TheVariants as Kinds;
+ghost use Rattle.ob_text_reading.specs.RecordLines.{IsTail};
 ghost use Rattle.ob_text_words.specs.Finding.{FindsAs};
 ghost use Rattle.ob_text_words.specs.Words.{words};
 
@@ -19,7 +20,6 @@ use crate::id::are_ids;
 use crate::kind::{LineKind, Stage, kind_of};
 use crate::names::NamedCalls;
 use crate::opening::read_opening;
-use crate::splitting::is_tail_line;
 use ob_checked::checked::Checked;
 use ob_checked::program::Variable;
 use ob_checked::types::Types;
@@ -81,7 +81,7 @@ impl Reader {
             LineKind::Event => self.take_event(alloc, checked, line, list),
             LineKind::Applied => Ok(self.take_applied(checked, line)),
             LineKind::Order => Ok(self.take_order(checked, line)),
-            LineKind::Tail => self.take_tail(alloc, checked, line),
+            LineKind::Tail => Ok(self.take_tail(checked, line)),
             LineKind::Other => Ok(None),
         }
     }
@@ -235,22 +235,24 @@ impl Reader {
         self.stage.place() < Stage::Order.place() && self.is_opened(checked)
     }
 
-    fn take_tail(
-        self,
-        alloc: Global,
-        checked: &Checked,
-        line: &[u8],
-    ) -> Result<Option<Reader>, NoMemory>
-        ensures { IfOk result (FindsAs heard_of (LeadsAs (program_in checked.now) (heard_of self) (words line.now) Kinds.Tail)) }
+    fn take_tail(self, checked: &Checked, line: &[u8]) -> Option<Reader>
+        ensures { FindsAs heard_of (LeadsAs (program_in checked.now) (heard_of self) (words line.now) Kinds.Tail) result }
     {
-        if self.stage.place() < Stage::Order.place() {
-            return Ok(None);
+        if self.stage.place() < Stage::Order.place() || !is_tail_line(line) {
+            return None;
         }
-        if !is_tail_line(alloc, line)? {
-            return Ok(None);
-        }
-        Ok(Some(self))
+        Some(self)
     }
+}
+
+/// Whether the first byte of a line's first word is `S` or `V`. Its other words are not looked at: a schedule's are as many as its steps.
+fn is_tail_line(line: &[u8]) -> bool
+    ensures { IsTrue result ↔ IsTail (words line.now) }
+{
+    let Some((first, _rest)) = next_word(line) else {
+        return false;
+    };
+    matches!(first.first(), Some(b'S' | b'V'))
 }
 
 /// Whether a line tells how many processes there are: `n N`.

@@ -1,0 +1,25 @@
+-- By the first byte of the first word.
+use Rattle.std.proofs.Common.{◌≡◌, ℕ, List, [], ◌∷◌, ◌∙◌, Some, ap, refl, sym}
+use Rattle.std.specs.Option.{option_copied}
+use Rattle.std.specs.List.{slice_get}
+use Rattle.ob_text_reading.specs.RecordLines.{schedule, variable}
+use Rattle.ob_text_reading.proofs.reader.is_tail_line.Goals as goal
+
+-- a word with a first byte
+front_of : (word : List ℕ) (byte : ℕ) → slice_get word 0 ≡ Some byte → (more : List ℕ) × (word ≡ byte ∷ more)
+front_of [] byte e = absurd (cc)
+front_of (first ∷ more) byte e = (more, cc)
+
+pub returns-in-Some-eq83 : goal.returns-in-Some-eq83
+returns-in-Some-eq83 c =
+    let byte : slice_get c.in-Some.first.now 0 ≡ Some 83 =
+    sym c.first.ensures.value ∙ ap option_copied c.in-Some-eq83.is ∙ ap (λ b. Some b) c.in-Some-eq83.field-0-test in
+    let front = front_of c.in-Some.first.now 83 byte in
+    (λ t. rw (c.in-Some.ensures.words, front.1) schedule, λ h. refl)
+
+pub returns-in-Some-eq83-2 : goal.returns-in-Some-eq83-2
+returns-in-Some-eq83-2 c =
+    let byte : slice_get c.in-Some.first.now 0 ≡ Some 86 =
+    sym c.first.ensures.value ∙ ap option_copied c.in-Some-eq83.is ∙ ap (λ b. Some b) c.in-Some-eq83.field-0-test in
+    let front = front_of c.in-Some.first.now 86 byte in
+    (λ t. rw (c.in-Some.ensures.words, front.1) variable, λ h. refl)
