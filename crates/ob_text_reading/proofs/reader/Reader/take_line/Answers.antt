@@ -26,4 +26,4 @@ pub returns-in-Order : goal.returns-in-Order
 returns-in-Order c = found_as (program_in c.args.checked.now) (heard_of c.args.self) (words c.args.line.now) _ _ c.kind_of.ensures c.in-Order.is _ c.take_order.ensures
 
 pub returns-in-Tail : goal.returns-in-Tail
-returns-in-Tail c = read_as (program_in c.args.checked.now) (heard_of c.args.self) (words c.args.line.now) _ _ c.kind_of.ensures c.in-Tail.is _ c.take_tail.ensures
+returns-in-Tail c = found_as (program_in c.args.checked.now) (heard_of c.args.self) (words c.args.line.now) _ _ c.kind_of.ensures c.in-Tail.is _ c.take_tail.ensures
