@@ -215,7 +215,7 @@ another than that of the module or procedure is P3.
     expected a statement, `END` or `;`
     hint: the WHILE of line 1 is still open; is its END missing?
     two ENDs are missing, of which that of the WHILE comes first
-  .. and 58 more, in docs/FAULTS.md
+  .. and 59 more, in docs/FAULTS.md
 
 Shown in its text by `obl0 explain a.mod`.
 ",
