@@ -9,10 +9,6 @@ use Rattle.wf_outcomes.specs.Explored.{HasNoStep, IsOnlyStep, IsOnlyStepWith}
 use Rattle.wf_outcomes.specs.Outcomes.{IsOnlyReply}
 use Rattle.wf_outcomes.proofs.OutcomesLists.{same_configuration}
 
--- what was read as the next call of a process
-pub next_is : {C : Type 0} (o : Option C) (scripts : List (List C)) (xs ys : List ℕ) (p : ℕ) → xs ≡ ys → p < length ys → (p < length xs → o ≡ slice_get (get_or scripts p []) (get_or xs p 0)) → slice_get (get_or scripts p []) (get_or ys p 0) ≡ o
-next_is o scripts xs ys p e within h = ap (λ (l : List ℕ). slice_get (get_or scripts p []) (get_or l p 0)) (sym e) ∙ sym (h (subst (λ (l : List ℕ). p < length l) (sym e) within))
-
 -- a process's next call
 abbrev pub next_of : {M : Type 0} → Configuration M → ℕ → CallId
 next_of c process = record { process = process; number = get_or c.counts process 0 + 1 }

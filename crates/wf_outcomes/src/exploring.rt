@@ -1,6 +1,6 @@
 //! The exploration.
 
-ghost use Rattle.std.specs.Prelude.{◌≡◌, ◌<◌, ◌≤◌, ◌+◌, length, replicate, IfOk, OnOk, IsErrOf};
+ghost use Rattle.std.specs.Prelude.{◌≡◌, ◌<◌, ◌≤◌, ◌+◌, length, IfOk, OnOk, IsErrOf};
 ghost use Rattle.indexmap.specs.IndexSet.{index_set_len};
 ghost use Rattle.wf_outcomes.specs.Explored.{all_kept, kept_in, calls_in, AreWorded, IsWorded, IsArrival, IsExploring, HasMore};
 ghost use Rattle.wf_outcomes.specs.RememberedCalls.{AreMade};
@@ -9,13 +9,14 @@ ghost use Rattle.wf_outcomes.specs.Merges.{start};
 use crate::explored::Explored;
 use crate::meetings::telling_places;
 use crate::remembered_calls::{Memory, nothing_made};
-use crate::seen::{Counts, Found, Keys, Seen, Stated};
+use crate::seen::{Found, Keys, Seen, Stated, row_of_words};
 use crate::step::{Task, step};
 use ob_interface::NoMemory;
 use std::alloc::Global;
 use std::hash::RandomState;
 use std::rc::Rc;
 use thiserror::Error;
+use wf_counts::Counts;
 use wf_history::KeptCall;
 use wf_order::Object;
 
@@ -42,6 +43,7 @@ impl From<NoMemory> for ExploreFault {
 }
 
 /// One more is found, unless it was found before.
+#[inline(always)]
 fn arrive<O: Object>(
     _object: &O,
     seen: &mut Seen<O::State>,
@@ -104,24 +106,17 @@ fn expand<'a, O: Object>(
     Ok(())
 }
 
-/// No call of any process.
-fn no_calls(alloc: Global, processes: usize) -> Result<Counts, NoMemory>
-    ensures { IfOk result (λ counts. counts.items ≡ replicate processes 0) }
-{
-    let counts = Counts::from_elem(alloc, 0, processes)?;
-    Ok(counts)
-}
-
 /// The configuration in which no call is made.
 fn start_of<O: Object>(task: &Task<O>) -> Result<Found<O::State>, NoMemory>
     ensures start { IfOk result (λ first. (kept_in O.meaning first).here ≡ start (O.effect task.now.object.now) (calls_in task.now.scripts.now) (O.opening task.now.object.now)) }
     ensures words { IfOk result (IsWorded O.meaning O.words_of) }
 {
     let alloc = task.alloc;
-    let counts = no_calls(alloc, task.scripts.len())?;
+    let counts = Counts::none(alloc, task.scripts.len())?;
     let state = task.object.open(alloc)?;
     let words = task.object.words(alloc, &state)?;
-    let kept = Rc::new(alloc, Stated { words, state })?;
+    let row = row_of_words(words.as_slice());
+    let kept = Rc::new(alloc, Stated { words, row, state })?;
     let (from, by) = (0, 0);
     Ok(Found {
         counts,
@@ -178,7 +173,7 @@ pub fn explore<'a, O: Object>(
         }
         place += 1;
     }
-    let telling = telling_places(alloc, &seen, Keys::new(keys))?;
+    let telling = telling_places(alloc, &seen)?;
     Ok(Explored {
         object,
         scripts,

@@ -43,7 +43,7 @@ impl<'a, O: Object> Explored<'a, O> {
         let full = lengths(alloc, self.scripts)?;
         let mut places = Vec::new(alloc);
         for place in 0..self.seen.len() {
-            if self.seen[place].counts.as_slice() == full.as_slice() {
+            if self.seen[place].counts.are(full.as_slice()) {
                 places.push(place)?;
             }
         }

@@ -5,20 +5,12 @@ ghost use Rattle.indexmap.specs.IndexSet.{index_set_len};
 ghost use Rattle.wf_outcomes.specs.Meetings.{AreMarks, AreTelling, IsMarked, IsMet, IsPlaced, MeetsAlike};
 
 use crate::remembered_calls::has_same_words;
-use crate::seen::{Found, Keys, Seen, Stated};
-use indexmap::IndexSet;
+use crate::seen::{Found, Seen};
 use ob_interface::NoMemory;
 use std::alloc::Global;
-use std::rc::Rc;
-
-/// How many states are numbered at most.
-const STATES: usize = 1024;
 
 /// How many meetings of a call and a state are remembered at most.
-const MARKS: usize = 1 << 16;
-
-/// States by numbers.
-type Numbers<S> = IndexSet<Rc<Stated<S>>, Keys>;
+const MARKS: u64 = 1 << 16;
 
 /// Places at which each call meets each state that it can meet, and of a call and a state the place at which they met last, as
 /// far as it is remembered.
@@ -28,28 +20,25 @@ struct Meetings {
     marks: Vec<usize>,
 }
 
-/// The number of a state, or one too many where it has none.
-fn number_of<S: Drop>(numbers: &mut Numbers<S>, state: &Rc<Stated<S>>) -> Result<usize, NoMemory> {
-    if numbers.len() >= STATES {
-        return Ok(numbers.get_index_of(state).unwrap_or(MARKS));
-    }
-    let (number, _) = numbers.insert_full(state.clone()?)?;
-    Ok(number)
-}
-
-/// Where it is marked that the next call of a process met the state of this number.
-fn row_of<S>(here: &Found<S>, number: usize, process: usize) -> usize {
-    let calls = number
+/// Where it is marked that the next call of a process met the state.
+#[inline(always)]
+fn row_of<S>(here: &Found<S>, process: usize) -> usize {
+    let state = here.kept.as_ref().row;
+    let call = state
         .wrapping_mul(31)
-        .wrapping_add(count_at(here, process) as usize);
-    calls.wrapping_mul(here.counts.len()).wrapping_add(process) % MARKS
+        .wrapping_add(count_at(here, process) as u64);
+    let row = call
+        .wrapping_mul(here.counts.len() as u64)
+        .wrapping_add(process as u64);
+    (row % MARKS) as usize
 }
 
 /// How many calls of a process are made.
+#[inline(always)]
 fn count_at<S>(one: &Found<S>, process: usize) -> u32
     ensures { result ≡ get_or one.now.counts.items process 0 }
 {
-    one.counts.as_slice().get(process).copied().unwrap_or(0)
+    one.counts.count(process)
 }
 
 /// Whether as many calls of the process are made at both, on the same state.
@@ -129,12 +118,7 @@ fn note(meetings: &mut Meetings, row: usize, place: usize) -> Result<(), NoMemor
 }
 
 /// Sees that the next call of each process meets the state of a configuration at one of the places.
-fn meet<S: Drop>(
-    seen: &Seen<S>,
-    meetings: &mut Meetings,
-    place: usize,
-    number: usize,
-) -> Result<(), NoMemory>
+fn meet<S: Drop>(seen: &Seen<S>, meetings: &mut Meetings, place: usize) -> Result<(), NoMemory>
     requires place { place < index_set_len seen.now }
     requires telling { AreTelling seen.now.keys meetings.old.places.items place }
     requires marks { AreMarks meetings.old.marks.items meetings.old.places.items }
@@ -143,7 +127,7 @@ fn meet<S: Drop>(
 {
     let here = &seen[place];
     for process in 0..here.counts.len() {
-        let row = row_of(here, number, process);
+        let row = row_of(here, process);
         if !is_met(seen, meetings, row, here, process) {
             note(meetings, row, place)?;
         }
@@ -152,20 +136,14 @@ fn meet<S: Drop>(
 }
 
 /// Places at which the next call of each process meets each state that it meets at any: all replies are to be seen there.
-pub(crate) fn telling_places<S: Drop>(
-    alloc: Global,
-    seen: &Seen<S>,
-    keys: Keys,
-) -> Result<Vec<usize>, NoMemory>
+pub(crate) fn telling_places<S: Drop>(alloc: Global, seen: &Seen<S>) -> Result<Vec<usize>, NoMemory>
     ensures { IfOk result (λ places. AreTelling seen.now.keys places.items (length seen.now.keys)) }
 {
-    let mut numbers = Numbers::with_hasher(alloc, keys);
     let places = Vec::new(alloc);
     let marks = Vec::new(alloc);
     let mut meetings = Meetings { places, marks };
     for place in 0..seen.len() {
-        let number = number_of(&mut numbers, &seen[place].kept)?;
-        meet(seen, &mut meetings, place, number)?;
+        meet(seen, &mut meetings, place)?;
     }
     Ok(meetings.places)
 }

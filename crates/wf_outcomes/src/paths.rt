@@ -16,7 +16,7 @@ fn last_call<S>(one: &Found<S>) -> CallId
 {
     CallId {
         process: one.by,
-        number: one.counts.as_slice().get(one.by).copied().unwrap_or(0) as u64,
+        number: one.counts.count(one.by) as u64,
     }
 }
 

@@ -6,20 +6,22 @@ ghost use Rattle.wf_history.specs.View.{kept_call};
 ghost use Rattle.wf_outcomes.specs.RememberedCalls.{AreMade, IsAfter, IsMade, IsNothing, IsRecalled, IsStated};
 ghost use Rattle.wf_outcomes.specs.Outcomes.{Answers};
 
-use crate::seen::Stated;
+use crate::seen::{Stated, row_of_words};
 use crate::step::{Task, applied};
 use ob_interface::NoMemory;
 use ob_interface::call::Reply;
 use ob_interface::scalar::Scalar;
 use smallvec::SmallVec;
 use std::alloc::{AllocError, Global};
-use std::hash::{FoldHasher, Hasher};
 use std::rc::Rc;
 use wf_history::KeptCall;
 use wf_order::Object;
 
-/// How many calls are remembered at most.
-const ROWS: usize = 1024;
+/// How many calls are remembered at most, as a power of 2.
+const ROW_BITS: u32 = 10;
+
+/// An odd number that spreads a row's number over its upper bits.
+const SPREAD: u64 = 0x9E37_79B9_7F4A_7C15;
 
 /// What a call made of a state, and its reply.
 #[derive(Drop)]
@@ -37,8 +39,9 @@ pub type Memory<'a, S> = Vec<Option<Made<'a, S>>>;
 pub(crate) fn nothing_made<'a, S: Drop>(alloc: Global) -> Result<Memory<'a, S>, NoMemory>
     ensures { IfOk result (λ memory. IsNothing memory.items) }
 {
-    let mut memory = Vec::with_capacity(alloc, ROWS)?;
-    for _ in 0..ROWS {
+    let rows = 1_usize << ROW_BITS;
+    let mut memory = Vec::with_capacity(alloc, rows)?;
+    for _ in 0..rows {
         memory.push(None)?;
     }
     Ok(memory)
@@ -53,21 +56,30 @@ fn number_of(scalar: Scalar) -> u64 {
     }
 }
 
-/// The row of a call on a state.
-fn row_of<S>(before: &Stated<S>, call: &KeptCall) -> usize {
-    let mut hasher = FoldHasher::default();
-    for word in before.words.as_slice() {
-        hasher.write_u64(*word);
-    }
-    hasher.write_usize(call.proc);
+/// A row's number with the arguments of a call.
+fn with_arguments(row: u64, call: &KeptCall) -> u64 {
     let args = call.args.lent();
+    let mut number = row;
     for scalar in args.as_slice() {
-        hasher.write_u64(number_of(*scalar));
+        number = number.wrapping_mul(31).wrapping_add(number_of(*scalar));
     }
-    (hasher.finish() % ROWS as u64) as usize
+    number
+}
+
+/// The row of a call on a state.
+#[inline(always)]
+fn row_of<S>(before: &Stated<S>, call: &KeptCall) -> usize {
+    let row = before.row.wrapping_mul(64).wrapping_add(call.proc as u64);
+    let number = if call.args.is_empty() {
+        row
+    } else {
+        with_arguments(row, call)
+    };
+    (number.wrapping_mul(SPREAD) >> (64 - ROW_BITS)) as usize
 }
 
 /// Whether two calls are the same.
+#[inline(always)]
 fn is_same_call(call: &KeptCall, other: &KeptCall) -> bool
     ensures { IsTrue result → kept_call call.now ≡ kept_call other.now }
 {
@@ -75,6 +87,7 @@ fn is_same_call(call: &KeptCall, other: &KeptCall) -> bool
 }
 
 /// Whether two states have the same words.
+#[inline(always)]
 pub(crate) fn has_same_words<S>(one: &Stated<S>, other: &Stated<S>) -> bool
     ensures { IsTrue result → one.now.words.items ≡ other.now.words.items }
 {
@@ -82,6 +95,7 @@ pub(crate) fn has_same_words<S>(one: &Stated<S>, other: &Stated<S>) -> bool
 }
 
 /// Whether this call was made on a state with the same words.
+#[inline(always)]
 fn is_made_so<S>(made: &Made<'_, S>, before: &Stated<S>, call: &KeptCall) -> bool
     ensures { IsTrue result → (made.now.before.value.words.items ≡ before.now.words.items) × (kept_call made.now.call.now ≡ kept_call call.now) }
 {
@@ -92,6 +106,7 @@ fn is_made_so<S>(made: &Made<'_, S>, before: &Stated<S>, call: &KeptCall) -> boo
 }
 
 /// The call on a state as it was made before, if that is remembered.
+#[inline(always)]
 fn recalled<'m, 'a, S>(
     memory: &'m [Option<Made<'a, S>>],
     before: &Stated<S>,
@@ -125,7 +140,8 @@ fn made_now<'a, O: Object>(
     let alloc = task.alloc;
     let (state, reply) = applied(alloc, task.object, &before.as_ref().state, call)?;
     let words = task.object.words(alloc, &state)?;
-    let after = Rc::new(alloc, Stated { words, state })?;
+    let row = row_of_words(words.as_slice());
+    let after = Rc::new(alloc, Stated { words, row, state })?;
     let before = before.clone()?;
     Ok(Made {
         before,

@@ -14,6 +14,7 @@ use crate::step::{Task, next_call};
 use ob_interface::NoMemory;
 use ob_interface::call::Reply;
 use std::alloc::Global;
+use wf_counts::Counts;
 use wf_history::CallId;
 use wf_order::Object;
 
@@ -59,12 +60,15 @@ fn add_reply(replies: &mut Vec<Possible>, reply: Reply, place: usize) -> Result<
 }
 
 /// Whether a call is its process's next one.
-fn is_next(counts: &[u32], id: CallId) -> bool
-    ensures { IsTrue result ↔ ((id.process < length counts.now) × (id.number ≡ get_or counts.now id.process 0 + 1)) }
+fn is_next(counts: &Counts, id: CallId) -> bool
+    ensures { IsTrue result ↔ ((id.process < length counts.now.items) × (id.number ≡ get_or counts.now.items id.process 0 + 1)) }
 {
-    match counts.get(id.process) {
+    if id.process >= counts.len() {
+        return false;
+    }
+    match id.number.checked_sub(1) {
         None => false,
-        Some(taken) => id.number.checked_sub(1) == Some(*taken as u64),
+        Some(before) => before == counts.count(id.process) as u64,
     }
 }
 
@@ -80,10 +84,10 @@ fn reply_at<O: Object>(
     ensures { IfOk result (λ made. MatchOption made (HasNoReply (O.effect task.now.object.now) (calls_in task.now.scripts.now) (kept_in O.meaning here.now).here id)
         (λ reply. ∥ IsOnlyReply (O.effect task.now.object.now) (calls_in task.now.scripts.now) (kept_in O.meaning here.now).here id (reply_of reply) ∥₁)) }
 {
-    if !is_next(here.counts.as_slice(), id) {
+    if !is_next(&here.counts, id) {
         return Ok(None);
     }
-    let Some(call) = next_call(task.scripts, here.counts.as_slice(), id.process) else {
+    let Some(call) = next_call(task.scripts, &here.counts, id.process) else {
         return Ok(None);
     };
     let reply = reply_to(task, memory, here.kept.as_ref(), call)?;

@@ -1,21 +1,30 @@
 //! The configurations that an exploration has found.
 
 use indexmap::IndexSet;
-use smallvec::SmallVec;
 use std::hash::{BuildHasher, FoldHasher, Hasher, RandomState};
 use std::rc::Rc;
+use wf_counts::Counts;
 use wf_order::object::Words;
-
-/// How many calls of each process are made. Of eight processes and less no memory is taken.
-pub type Counts = SmallVec<u32, 8>;
 
 /// A state, also in words.
 #[derive(Drop)]
 #[derive_where(PartialEq, Eq, Hash)]
 pub struct Stated<S> {
     pub(crate) words: Words,
+    /// What rows of the state are found by.
+    #[derive_where(skip(EqHashOrd))]
+    pub(crate) row: u64,
     #[derive_where(skip(EqHashOrd))]
     pub(crate) state: S,
+}
+
+/// What rows of a state are found by: a number of its words.
+pub(crate) fn row_of_words(words: &[u64]) -> u64 {
+    let mut row = 0_u64;
+    for word in words {
+        row = row.wrapping_mul(31).wrapping_add(*word);
+    }
+    row
 }
 
 /// How many calls of each process are made, and the state that they lead to, which is kept once for all that a remembered call led to.

@@ -1,6 +1,6 @@
 //! Steps from a configuration.
 
-ghost use Rattle.std.specs.Prelude.{◌≡◌, ◌<◌, ◌+◌, [], length, get_or, slice_get, slice_set, option_map, IfOk, IfSome, MatchOption, OnOk, IsTrue, ◌↔◌};
+ghost use Rattle.std.specs.Prelude.{◌≡◌, ◌<◌, [], length, get_or, slice_get, option_map, IfOk, IfSome, MatchOption, OnOk};
 ghost use Rattle.std.specs.Option.{option_copied};
 ghost use Rattle.ob_interface.specs.View.{reply_of};
 ghost use Rattle.wf_history.specs.View.{kept_call};
@@ -8,12 +8,12 @@ ghost use Rattle.wf_outcomes.specs.RememberedCalls.{AreMade};
 ghost use Rattle.wf_outcomes.specs.Explored.{kept_in, calls_in, HasNoStep, IsOnlyStep, IsOnlyStepWith, IsWorded};
 
 use crate::remembered_calls::{Memory, after};
-use crate::seen::{Counts, Found, Stated};
+use crate::seen::{Found, Stated, row_of_words};
 use ob_interface::NoMemory;
 use ob_interface::call::Reply;
-use smallvec::SmallVec;
-use std::alloc::{AllocError, Global};
+use std::alloc::Global;
 use std::rc::Rc;
+use wf_counts::Counts;
 use wf_history::{KeptCall, SeenCall};
 use wf_order::Object;
 
@@ -42,43 +42,15 @@ pub(crate) fn applied<O: Object>(
 }
 
 /// The next call of a process, if it has one.
+#[inline(always)]
 pub(crate) fn next_call<'a>(
     scripts: &'a [Vec<KeptCall>],
-    counts: &[u32],
-    process: usize,
-) -> Option<&'a KeptCall>
-    ensures { process < length counts.now → option_map kept_call (option_copied result) ≡ slice_get (get_or (calls_in scripts.now) process []) (get_or counts.now process 0) }
-{
-    scripts.get(process)?.get(*counts.get(process)? as usize)
-}
-
-/// The counts with another one for a process.
-fn counts_with(
-    alloc: Global,
     counts: &Counts,
     process: usize,
-    number: u32,
-) -> Result<Counts, AllocError>
-    requires { process < length counts.now.items }
-    ensures { IfOk result (λ new. new.items ≡ slice_set counts.now.items process number) }
+) -> Option<&'a KeptCall>
+    ensures { option_map kept_call (option_copied result) ≡ slice_get (get_or (calls_in scripts.now) process []) (get_or counts.now.items process 0) }
 {
-    let mut new = SmallVec::from_slice(alloc, counts.as_slice())?;
-    if let Some(count) = new.get_mut(process) {
-        *count = number;
-    }
-    Ok(new)
-}
-
-/// The counts with one call more of a process.
-fn one_more(alloc: Global, counts: &Counts, process: usize) -> Result<Counts, NoMemory>
-    requires { process < length counts.now.items }
-    ensures { IfOk result (λ more. more.items ≡ slice_set counts.now.items process (get_or counts.now.items process 0 + 1)) }
-{
-    let Some(number) = counts[process].checked_add(1) else {
-        return Err(NoMemory);
-    };
-    let more = counts_with(alloc, counts, process, number)?;
-    Ok(more)
+    scripts.get(process)?.get(counts.count(process) as usize)
 }
 
 /// What the next call of a process leads to from the configuration at a place, if it has one, and its reply.
@@ -95,13 +67,14 @@ pub(crate) fn stepped<O: Object>(
     ensures words { IfOk result (λ made. IfSome made (λ to. IsWorded O.meaning O.words_of to.0)) }
 {
     let alloc = task.alloc;
-    let Some(call) = next_call(task.scripts, here.counts.as_slice(), process) else {
+    let Some(call) = next_call(task.scripts, &here.counts, process) else {
         return Ok(None);
     };
     let (state, reply) = applied(alloc, task.object, here.state(), call)?;
     let words = task.object.words(alloc, &state)?;
-    let kept = Rc::new(alloc, Stated { words, state })?;
-    let counts = one_more(alloc, &here.counts, process)?;
+    let row = row_of_words(words.as_slice());
+    let kept = Rc::new(alloc, Stated { words, row, state })?;
+    let counts = here.counts.one_more(alloc, process)?;
     let (from, by) = (place, process);
     let there = Found {
         counts,
@@ -129,11 +102,11 @@ pub(crate) fn step<'a, O: Object>(
     ensures words { IfOk result (λ stepped. IfSome stepped (IsWorded O.meaning O.words_of)) }
     ensures memory { OnOk result (AreMade O.meaning O.words_of (O.effect task.now.object.now) memory.new.items) }
 {
-    let Some(call) = next_call(task.scripts, here.counts.as_slice(), process) else {
+    let Some(call) = next_call(task.scripts, &here.counts, process) else {
         return Ok(None);
     };
     let kept = after(task, memory, &here.kept, call)?;
-    let counts = one_more(task.alloc, &here.counts, process)?;
+    let counts = here.counts.one_more(task.alloc, process)?;
     let (from, by) = (place, process);
     let there = Found {
         counts,

@@ -33,7 +33,7 @@ loop-process-preserved g c =
 pub returns-clause-telling : goal.returns-clause-telling
 returns-clause-telling g c =
     let end = c.loop-process-test.false in
-    let all = c.len-process-end.ensures.value in
+    let all = c.len-process-end.ensures in
     meeting_done c.args.seen.now.keys c.args.place c.index-here.result.now c.index-here.ensures c.loop-process.meetings.marks.items c.loop-process.meetings.places.items c.loop-process.process c.loop-process.invariant (omega (arith, end, all))
 
 pub returns-clause-marks : goal.returns-clause-marks

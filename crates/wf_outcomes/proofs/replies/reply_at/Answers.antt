@@ -1,5 +1,5 @@
 -- The call is next, and has one outcome.
-use Rattle.std.proofs.Common.{refl, sym, ap, subst, ◌∙◌, ℕ, ◌+◌, ◌<◌, List, length, get_or, Some}
+use Rattle.std.proofs.Common.{refl, sym, subst, ◌<◌, length}
 use Rattle.std.proofs.Math.Logic.{∥∥₁_map}
 use Rattle.ob_interface.specs.View.{reply_of}
 use Rattle.wf_history.specs.View.{kept_call}
@@ -7,7 +7,7 @@ use Rattle.wf_outcomes.specs.Explored.{kept_in, calls_in}
 use Rattle.wf_outcomes.specs.RememberedCalls.{IsStated}
 use Rattle.wf_outcomes.specs.Outcomes.{Answers}
 use Rattle.wf_outcomes.specs.declared.seen.Stated.{Stated}
-use Rattle.wf_outcomes.proofs.Stepping.{next_is, only_reply}
+use Rattle.wf_outcomes.proofs.Stepping.{only_reply}
 use Rattle.wf_outcomes.proofs.replies.reply_at.Goals as goal
 
 pub reply_to-requires-clause-before : goal.reply_to-requires-clause-before
@@ -21,9 +21,9 @@ returns g c =
     let here = (kept_in g.O.Object.meaning c.args.here.now).here in
     let id = c.args.id in
     let next = c.is_next.ensures.0 c.if-not-is_next.false in
-    let within : id.process < length c.args.here.now.counts.items = subst (λ (l : List ℕ). id.process < length l) c.as_slice.ensures next.0 in
-    let at = next_is (Some (kept_call c.in-Some.call.now)) scripts c.as_slice-2.result.now c.args.here.now.counts.items id.process c.as_slice-2.ensures within c.in-Some.ensures in
+    let within : id.process < length c.args.here.now.counts.items = next.0 in
+    let at = sym c.in-Some.ensures in
     ∥∥₁_map c.in_ok-reply.ensures (λ said.
     let answers = subst (λ (s : Stated g.row.O-State.Denot). Answers effect (kept_call c.in-Some.call.now) (reply_of c.in_ok-reply.reply) (g.O.Object.meaning s.state)) c.as_ref.ensures said in
     only_reply effect (λ call. g.met.O.Object.determined task.object.now call) scripts here id.process (kept_call c.in-Some.call.now) at within id refl
-    (next.1 ∙ ap (λ (l : List ℕ). get_or l id.process 0 + 1) c.as_slice.ensures) answers.0 (reply_of c.in_ok-reply.reply) answers.1)
+    next.1 answers.0 (reply_of c.in_ok-reply.reply) answers.1)

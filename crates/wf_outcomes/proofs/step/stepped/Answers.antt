@@ -1,11 +1,11 @@
 -- The next call is the script's, and has one outcome.
-use Rattle.std.proofs.Common.{sym, subst, ◌<◌, length, Some}
+use Rattle.std.proofs.Common.{sym, subst, ◌<◌, length}
 use Rattle.ob_interface.specs.View.{reply_of}
 use Rattle.wf_history.specs.View.{kept_call}
 use Rattle.wf_outcomes.specs.declared.seen.Stated.{Stated}
 use Rattle.wf_outcomes.specs.Explored.{kept_in, calls_in}
 use Rattle.wf_outcomes.specs.RememberedCalls.{IsStated}
-use Rattle.wf_outcomes.proofs.Stepping.{next_is, only_step_with}
+use Rattle.wf_outcomes.proofs.Stepping.{only_step_with}
 use Rattle.wf_outcomes.proofs.step.stepped.Goals as goal
 
 pub returns-clause-only : goal.returns-clause-only
@@ -19,7 +19,7 @@ returns-clause-only g c =
     let call = kept_call c.in-Some.call.now in
     let reply = reply_of c.in_ok-state.reply in
     let within : process < length c.args.here.now.counts.items = c.requires in
-    let at = next_is (Some call) scripts c.as_slice.result.now c.args.here.now.counts.items process c.as_slice.ensures within c.in-Some.ensures in
+    let at = sym c.in-Some.ensures in
     let before = subst (λ (s : g.row.O-State.Denot). does call (meaning s) (meaning c.in_ok-state.state) reply) c.state.ensures c.in_ok-state.ensures in
     let effect = subst (λ (s : Stated g.row.O-State.Denot). does call here.state (meaning s.state) reply) (sym c.in_ok-kept.ensures.ok) before in
     only_step_with does (λ call. g.met.O.Object.determined task.object.now call) scripts here process call at within

@@ -1,15 +1,12 @@
 -- One place more, and all of them.
 use Rattle.std.proofs.Common.{sym, ap, ◌∙◌, subst, ℕ, ◌+◌, option_map, Vec, Global, arith}
-use Rattle.std.proofs.Math.Dec.{eqb}
 use Rattle.std.proofs.Math.Logic.{∥∥₁_map}
-use Rattle.std.proofs.lemmas.Bool.Decides.{Decides-eqb}
 use Rattle.std.proofs.lemmas.List.{length-map}
 use Rattle.std.proofs.lemmas.Option.{slice_get-map}
-use Rattle.std.proofs.lemmas.Slice.Eq.{slice_eq-Decides}
 use Rattle.wf_outcomes.specs.Explored.{kept_in, all_kept, calls_in}
 use Rattle.wf_outcomes.proofs.Full.{AreFull, full_less, full_more, full_all}
 use Rattle.wf_outcomes.proofs.explored.Explored.finals.Goals as goal
-use Rattle.wf_outcomes.proofs.explored.Explored.finals.Goals.{then-eq+in_ok-push, else-eq}
+use Rattle.wf_outcomes.proofs.explored.Explored.finals.Goals.{then-are+in_ok-push, else-are}
 
 pub loop-place-preserved : goal.loop-place-preserved
 loop-place-preserved g c =
@@ -18,11 +15,10 @@ loop-place-preserved g c =
     let place = c.loop-place.place in
     let one = c.index.result.now in
     let at = slice_get-map view c.args.self.now.seen.keys place ∙ ap (option_map view) c.index.ensures in
-    let eq = slice_eq-Decides {E = eqb} Decides-eqb c.as_slice.result.now c.as_slice-in-loop-place.result.now c.eq.result c.eq.ensures in
-    elim c.if-eq.branch [
-      | then-eq+in_ok-push w ↦ full_more kept c.in_ok-full.full.items c.loop-place.places.items place c.loop-place.invariant (view one) at (sym c.as_slice.ensures ∙ eq.0 w.if-eq.true ∙ c.as_slice-in-loop-place.ensures.value) c.if-eq.places.items (ap (λ (v : Vec ℕ Global). v.items) w.places-is ∙ w.in_ok-push.ensures.items)
-      | else-eq w ↦ subst (λ (v : Vec ℕ Global). AreFull kept c.in_ok-full.full.items v.items (place + 1)) (sym w.places-is)
-          (full_less kept c.in_ok-full.full.items c.loop-place.places.items place c.loop-place.invariant (view one) at (λ same. let t = eq.1 (c.as_slice.ensures ∙ same ∙ sym c.as_slice-in-loop-place.ensures.value) in let f = w.if-eq.false in absurd (cc)))
+    elim c.if-are.branch [
+      | then-are+in_ok-push w ↦ full_more kept c.in_ok-full.full.items c.loop-place.places.items place c.loop-place.invariant (view one) at (c.are.ensures.0 w.if-are.true ∙ c.as_slice.ensures.value) c.if-are.places.items (ap (λ (v : Vec ℕ Global). v.items) w.places-is ∙ w.in_ok-push.ensures.items)
+      | else-are w ↦ subst (λ (v : Vec ℕ Global). AreFull kept c.in_ok-full.full.items v.items (place + 1)) (sym w.places-is)
+          (full_less kept c.in_ok-full.full.items c.loop-place.places.items place c.loop-place.invariant (view one) at (λ same. let t = c.are.ensures.1 (same ∙ sym c.as_slice.ensures.value) in let f = w.if-are.false in absurd (cc)))
     ]
 
 pub returns : goal.returns
