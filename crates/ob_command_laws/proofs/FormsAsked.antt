@@ -1,5 +1,5 @@
 -- What each form of a command asks for.
-use Rattle.std.proofs.Common.{◌≡◌, ◌∙◌, ◌||◌, ◌&&◌, ◌⊎◌, inl, inr, ℕ, refl, sym, ap, ap₂, tt, not, List, [], ◌∷◌, find, codes, true, false, Bool, if◌then◌else◌, Option, Some, None, is_some, option_and_then, option_map, unwrap_or}
+use Rattle.std.proofs.Common.{◌≡◌, ◌∙◌, ◌||◌, ◌&&◌, ◌⊎◌, inl, inr, ℕ, refl, sym, ap, ap₂, not, List, [], ◌∷◌, find, codes, true, false, Bool, if◌then◌else◌, Option, Some, None, is_some, option_and_then, option_map, unwrap_or}
 use Rattle.std.specs.Option.{option_map_or}
 use Rattle.std.specs.Str.{bytes_eq}
 use Rattle.clap.specs.Walk.{Text}
@@ -626,8 +626,8 @@ alone_asks m chosen no_m plain lacks =
 
 -- of a name that is that of no fault, or with a budget beside it, a module is explained
 other_name : (m : Text) (t : Option ℕ) → names_fault m ≡ false → explain_alone m t ≡ Explain m (unwrap_or t default_budget)
-other_name m None no = rw no refl
-other_name m (Some b) no = refl
+other_name m None unnamed = rw unnamed refl
+other_name m (Some b) unnamed = refl
 
 beside_budget : (m : Text) (t : Option ℕ) → is_some t ≡ true → explain_alone m t ≡ Explain m (unwrap_or t default_budget)
 beside_budget m None is = cc
