@@ -1,5 +1,5 @@
 -- A count of each process's calls, and what is told call by call.
-use Rattle.std.proofs.Common.{◌≡◌, ◌≢◌, ℕ, suc, ◌+◌, ◌<◌, ◌≤◌, ◌==◌, List, [], ◌∷◌, ◌++◌, length, take, drop, get_or, set, replicate, inl, inr, true, false, cond, refl, sym, ◌∙◌, ap, ap₂, subst, append-nil, append_assoc, add-one, drop-cons, eq-eqb, arith, Option}
+use Rattle.std.proofs.Common.{◌≡◌, ℕ, suc, ◌+◌, ◌<◌, ◌≤◌, ◌==◌, List, ◌∷◌, ◌++◌, length, take, drop, get_or, set, replicate, inl, inr, false, cond, refl, sym, ◌∙◌, ap, ap₂, subst, append-nil, append_assoc, add-one, eq-eqb, arith, Option}
 use Rattle.std.proofs.Common.{get_or-set_other, get_or-set_same}
 use Rattle.std.proofs.lemmas.List.{drop_all, length-take, length-set, length-replicate, get_or-replicate}
 use Rattle.std.proofs.lemmas.List.Filters.{length-filter_more}

@@ -68,7 +68,7 @@ pub(crate) fn calls_there(spots: &[Option<Spot>], before: usize, spot: Option<Sp
 }
 
 /// Whether one of these calls traps there. The last one is looked at first, since calls that trap at one place mostly come together.
-#[tactic(auto, using(crate::proofs::Met::met_before, crate::proofs::Met::met_last))]
+#[tactic(auto, using(crate::proofs::Earlier::met_before, crate::proofs::Earlier::met_last))]
 fn is_met(spots: &[Option<Spot>], spot: Spot) -> bool
     ensures { result ≡ list_any (is_there spot) spots.now }
 {

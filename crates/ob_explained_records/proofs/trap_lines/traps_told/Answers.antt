@@ -40,16 +40,16 @@ loop-index-preserved c =
     (HasCounted-more c.args.processes c.args.callers.now k made c.loop-index.invariant.0 p below within refl) in
     let spots = map (spot_of setting.tree) sites in
     let found : c.deref.result.now ≡ spots = c.deref.ensures.value ∙ c.in_ok-spots.ensures in
-    let counted : c.calls_there.result ≡ calls_there spots k (spot_of setting.tree site) =
-    c.calls_there.ensures ∙ ap (λ s. calls_there s k c.spot_of.result) found ∙ ap (calls_there spots k) c.spot_of.ensures in
+    let counted : c.calls_there-count.result ≡ calls_there spots k (spot_of setting.tree site) =
+    c.calls_there-count.ensures ∙ ap (λ s. calls_there s k c.spot_of.result) found ∙ ap (calls_there spots k) c.spot_of.ensures in
     let told = ap (λ t. t ++ lines_from setting c.args.callers.now c.args.lines.now spots (k + 1) (drop (k + 1) sites))
-    (c.in_ok-push_count.ensures ∙ ap (λ t. t ++ count_lines c.calls_there.result) (c.in_ok-push_site.ensures ∙ ap (λ s. string_bytes c.loop-index.told ++ site_lines setting (the_call p c.index.result.now (get_or c.args.lines.now k 0)) s) c.if_first.ensures))
-    ∙ told_next setting c.args.callers.now c.args.lines.now sites spots _ k (the_call p c.index.result.now (get_or c.args.lines.now k 0)) site c.calls_there.result (string_bytes c.loop-index.told)
+    (c.in_ok-push_count.ensures ∙ ap (λ t. t ++ count_lines c.calls_there-count.result) (c.in_ok-push_site.ensures ∙ ap (λ s. string_bytes c.loop-index.told ++ site_lines setting (the_call p c.index.result.now (get_or c.args.lines.now k 0)) s) c.if_first.ensures))
+    ∙ told_next setting c.args.callers.now c.args.lines.now sites spots _ k (the_call p c.index.result.now (get_or c.args.lines.now k 0)) site c.calls_there-count.result (string_bytes c.loop-index.told)
     inside here call counted c.loop-index.invariant.1 in
     (counts, told)
 
-pub calls_there-requires : goal.calls_there-requires
-calls_there-requires c =
+pub calls_there-count-requires : goal.calls_there-count-requires
+calls_there-count-requires c =
     let long : length c.deref.result.now ≡ length c.args.sites.now =
     ap length (c.deref.ensures.value ∙ c.in_ok-spots.ensures) ∙ length-map (map (option_map site_of) c.args.sites.now) (spot_of (setting_of c.args.setting).tree)
     ∙ length-map c.args.sites.now (option_map site_of) in

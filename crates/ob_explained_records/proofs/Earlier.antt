@@ -15,12 +15,12 @@ or_true false = refl
 
 pub met_before : (spot : Spot) (calls : List (Option Spot)) (last : Option Spot) → is_there spot last ≡ false →
     list_any (is_there spot) (calls ++ (last ∷ [])) ≡ list_any (is_there spot) calls
-met_before spot calls last no =
-    list_any-append (is_there spot) calls (last ∷ []) ∙ ap (λ (b : Bool). list_any (is_there spot) calls || (b || false)) no
+met_before spot calls last other =
+    list_any-append (is_there spot) calls (last ∷ []) ∙ ap (λ (b : Bool). list_any (is_there spot) calls || (b || false)) other
     ∙ or_false (list_any (is_there spot) calls)
 
 pub met_last : (spot : Spot) (calls : List (Option Spot)) (last : Option Spot) → is_there spot last ≡ true →
     list_any (is_there spot) (calls ++ (last ∷ [])) ≡ true
-met_last spot calls last yes =
-    list_any-append (is_there spot) calls (last ∷ []) ∙ ap (λ (b : Bool). list_any (is_there spot) calls || (b || false)) yes
+met_last spot calls last there =
+    list_any-append (is_there spot) calls (last ∷ []) ∙ ap (λ (b : Bool). list_any (is_there spot) calls || (b || false)) there
     ∙ or_true (list_any (is_there spot) calls)
