@@ -1,17 +1,19 @@
 -- Calls that code makes one at a time, and the lines of their replies so far.
-use Rattle.std.proofs.Common.{◌≡◌, ◌∙◌, ℕ, zero, suc, ◌+◌, ◌<◌, ◌≤◌, min, List, [], ◌∷◌, ◌++◌, map, length, get_or, set, drop, replicate, refl, sym, ap, subst, All, arith}
+use Rattle.std.proofs.Common.{◌≡◌, ◌∙◌, ℕ, zero, suc, ◌+◌, ◌<◌, ◌≤◌, min, List, [], ◌∷◌, ◌++◌, map, length, get_or, set, take, drop, replicate, refl, sym, ap, ap₂, subst, All, arith}
 use Rattle.std.proofs.Math.ListN.{get_or-map}
-use Rattle.std.proofs.lemmas.List.{length-map}
+use Rattle.std.proofs.lemmas.List.{length-map, take_all, take_more}
 use Rattle.ob_code_calls.specs.Parts.{parts_in}
 use Rattle.ob_code_correct.specs.CodeMeaning.{EngineParts}
 use Rattle.ob_code_correct.specs.Compiled.{Fits, IsFitting, parts_of}
 use Rattle.ob_code_correct.specs.Parts.{IsCompiledTo, IsLawfulFor}
+use Rattle.ob_layout.specs.Layout.{LayoutParts, layout_of}
 use Rattle.ob_code_scheme.specs.Layout.{encoded}
-use Rattle.ob_code_calls.specs.Standing.{IsMade, StandsAt}
+use Rattle.ob_code_calls.specs.Standing.{IsLaidOut, IsMade, StandsAt}
 use Rattle.ob_code_calls.specs.declared.standing_state.CodedState.{CodedState}
 use Rattle.ob_interface.specs.Call.{ObjectCall, Reply}
 use Rattle.ob_mean.proofs.Runs.{drop_here}
 use Rattle.ob_mean.specs.Sequences.{replies_to}
+use Rattle.ob_object_calls.proofs.ChangesInTurn.{changes_last, changes_next}
 use Rattle.ob_object_calls.proofs.Printing.{HasPrinted, HasPrinted-all, HasPrinted-more, HasPrinted-none}
 use Rattle.ob_meaning.specs.ByPositionObject.{effect}
 use Rattle.ob_meaning.specs.ByPositionStore.{Activation}
@@ -19,6 +21,7 @@ use Rattle.ob_text_words.specs.ReplyLines.{reply_line}
 use Rattle.ob_object_compile.specs.Compilation.{ObjectParts}
 use Rattle.ob_object_compile.specs.Sound.{IsSoundObject}
 use Rattle.ob_object_calls.specs.CallLines.{reply_lines}
+use Rattle.ob_object_calls.specs.DetailLines.{all_changes_at, lines_at, lines_changed}
 use Rattle.ob_text_words.specs.declared.script_call.ScriptCall.{ScriptCall}
 use Rattle.ob_text_words.specs.ScriptCalls.{object_call, script_call_of}
 use Rattle.ob_typing.specs.Program.{Program}
@@ -104,6 +107,70 @@ module _ (program : Program) (budget : ℕ) (opening : Activation) (calls : List
 
     pub reply_here : reply ≡ get_or all_replies n reply
     reply_here = at.here
+
+-- ---- the replies of calls, and the changes that they make
+
+module _ (program : Program) (budget : ℕ) (opening : Activation) (calls : List ObjectCall) where
+  -- so many calls are made, and have these replies
+  pub record HasReplied (n : ℕ) (o : CodedState) (replies : List Reply) : Type 0 where
+    pub made : HasMade program budget opening calls n o
+    pub so_far : replies ≡ take n (all_replies program budget opening calls)
+
+  pub replied_none : (o : CodedState) → StandsAt program budget opening o → HasReplied 0 o []
+  replied_none o stands = record { made = made_none program budget opening calls o stands; so_far = refl }
+
+  pub replied_more : (n : ℕ) (o next : CodedState) (replies : List Reply) (r : HasReplied n o replies) (call : ObjectCall) (reply : Reply) → n < length calls →
+      call ≡ get_or calls n call → IsMade program budget call r.made.state next reply → HasReplied (n + 1) next (replies ++ reply ∷ [])
+  replied_more n o next replies r call reply below here is =
+      let all = all_replies program budget opening calls in
+      let at = reply_here program budget opening calls n o next r.made call reply below here is in
+      record {
+        made = made_more program budget opening calls n o next r.made call reply below here is;
+        so_far =
+            ap (λ (rs : List Reply). rs ++ reply ∷ []) r.so_far
+            ∙ ap (λ (x : Reply). take n all ++ x ∷ []) at
+            ∙ sym (take_more all n reply (replied program budget opening calls n o next r.made call reply below here is));
+      }
+
+  pub replied_all : (n : ℕ) (o : CodedState) (replies : List Reply) → HasReplied n o replies → n ≡ length calls → replies ≡ all_replies program budget opening calls
+  replied_all n o replies r e =
+      r.so_far ∙ take_all n (all_replies program budget opening calls) (rw (replies_count program budget opening calls) (omega arith))
+
+  -- so many calls are made, these are the lines of the variables there, and these the changes that the calls made
+  pub record HasChanged (n : ℕ) (o : CodedState) (lines changes : List (List ℕ)) : Type 0 where
+    pub made : HasMade program budget opening calls n o
+    pub lines_are : lines ≡ lines_at program.variables made.state
+    pub so_far : changes ++ all_changes_at program budget made.state (drop n calls) ≡ all_changes_at program budget opening calls
+
+  pub changed_none : (o : CodedState) (lines : List (List ℕ)) → StandsAt program budget opening o → lines ≡ lines_at program.variables opening → HasChanged 0 o lines []
+  unfolding made_none
+  changed_none o lines stands is = record { made = made_none program budget opening calls o stands; lines_are = is; so_far = refl }
+
+  -- the state behind one call more
+  abbrev pub next_state : {n : ℕ} {o : CodedState} → HasMade program budget opening calls n o → ObjectCall → Activation
+  next_state made call = (effect program call budget made.state).state
+
+  pub changed_more : (n : ℕ) (o next : CodedState) (lines after changes : List (List ℕ)) (text : List ℕ) (h : HasChanged n o lines changes) (call : ObjectCall) (reply : Reply) →
+      n < length calls → call ≡ get_or calls n call → IsMade program budget call h.made.state next reply →
+      after ≡ lines_at program.variables (next_state h.made call) → text ≡ lines_changed lines after → HasChanged (n + 1) next after (changes ++ text ∷ [])
+  unfolding made_more
+  changed_more n o next lines after changes text h call reply below here is after_is text_is =
+      record {
+        made = made_more program budget opening calls n o next h.made call reply below here is;
+        lines_are = after_is;
+        so_far =
+            changes_next program budget calls n call h.made.state (next_state h.made call) reply changes (all_changes_at program budget opening calls) text below here
+            (ap (λ (r : Reply). record { state = next_state h.made call; reply = r }) is.reply_is)
+            (text_is ∙ ap₂ lines_changed h.lines_are after_is) h.so_far;
+      }
+
+  pub changed_all : (n : ℕ) (o : CodedState) (lines changes : List (List ℕ)) → HasChanged n o lines changes → n ≡ length calls → changes ≡ all_changes_at program budget opening calls
+  changed_all n o lines changes h e =
+      changes_last program budget calls n h.made.state changes (all_changes_at program budget opening calls) (omega arith) h.so_far
+
+  -- the words are of a state of an object's layout
+  pub laid_out : (layout : LayoutParts) → layout ≡ layout_of program → (state : Activation) (o : CodedState) → StandsAt program budget state o → ∥ IsLaidOut layout o ∥₁
+  laid_out layout is state o stands = ∣ record { program = program; budget = budget; state = state; layout_is = is; stands = stands } ∣₁
 
 -- ---- the calls of a script, and their lines
 

@@ -40,6 +40,8 @@ pub made_in_turn : (program : Program) (budget : ℕ) (call : ObjectCall) (befor
     IsMadeInTurn IsAt program budget call before after reply
 made_in_turn program budget call before after reply m = record { reply_is = m.reply_is; stands = m.stands }
 
--- what holds of the value that there is
-pub some_at : {A : Type 0} (o : Option A) (x : A) (P : A → Type 0) → o ≡ Some x → IfSome o P → P x
-some_at {A} o x P is h = subst (λ (q : Option A). IfSome q P) is h
+-- the code stands where it is said to, where there is some
+pub code_stands : (program : Program) (budget : ℕ) (state : Activation) (found : Option ByCode) (code : ByCode) → found ≡ Some code →
+    IfSome found (λ (b : ByCode). Standing.StandsAt program budget state b.coded) → Standing.StandsAt program budget state code.coded
+code_stands program budget state found code is h =
+    subst (λ (o : Option ByCode). IfSome o (λ (b : ByCode). Standing.StandsAt program budget state b.coded)) is h

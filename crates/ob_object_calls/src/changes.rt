@@ -1,45 +1,50 @@
 //! The variables that calls change, as the lines that tell them.
 
-ghost use Rattle.std.specs.Prelude.{◌≡◌, ◌++◌, IfOk, OnOk, map, string_bytes};
-ghost use Rattle.ob_checked.specs.CheckedModule.{program_in};
+ghost use Rattle.std.specs.Prelude.{◌≡◌, ◌++◌, All, IfOk, OnOk, map, string_bytes};
 ghost use Rattle.ob_checked.specs.View.{program_of, table_of, variable_of};
-ghost use Rattle.ob_mean.specs.View.{call_of};
+ghost use Rattle.ob_code_correct.specs.Compiled.{Fits};
+ghost use Rattle.ob_object_compile.specs.Sound.{IsSoundObject};
+ghost use Rattle.ob_object_compile.specs.View.{object_in};
 ghost use Rattle.ob_object_calls.specs.DetailLines.{all_changes_at, line_changed, lines_at, lines_changed};
 ghost use Rattle.ob_store.specs.View.{state_of, value_in};
 ghost use Rattle.ob_text_record.specs.Variables.{variable_line};
+ghost use Rattle.ob_text_words.specs.ScriptCalls.{object_call, script_call_of};
 
-use ob_checked::checked::Checked;
+use crate::coded_calls::coded;
 use ob_checked::program::{Program, Variable};
 use ob_checked::types::Types;
 use ob_interface::NoMemory;
-use ob_mean::call::Call;
-use ob_mean::object::step;
+use ob_object_compile::Object;
 use ob_store::state::State;
 use ob_store::value::Value;
 use ob_text_record::values::push_value;
+use ob_text_words::script_call::ScriptCall;
 use std::alloc::{AllocError, Global};
 
-/// Of calls made one at a time from a state, which is given up, each with the budget: the lines of the variables that each changed.
+/// Of a script's calls, made one at a time from the state with which an object begins, each with its budget: the lines of the variables
+/// that each changed.
 pub(crate) fn changes_in_turn(
     alloc: Global,
-    checked: &Checked,
-    begun: State,
-    calls: &[Call],
-    budget: u64,
+    object: &Object,
+    calls: &[ScriptCall],
 ) -> Result<Vec<String>, NoMemory>
+    requires sound { IsSoundObject (object_in object.now) }
+    requires fit { All (λ c. Fits (object_in object.now).program (object_call (script_call_of c))) calls.now }
     ensures { IfOk result (λ changes. map string_bytes changes.items
-        ≡ all_changes_at (program_in checked.now) budget (state_of begun) (map call_of calls.now)) }
+        ≡ all_changes_at (object_in object.now).program (object_in object.now).engine.budget (object_in object.now).opening
+        (map (λ c. object_call (script_call_of c)) calls.now)) }
 {
-    let program = checked.program();
-    let mut lines = state_lines(alloc, program, &begun)?;
-    let mut state = begun;
-    let mut changes = Vec::new(alloc);
+    let program = object.checked().program();
+    let mut lines = state_lines(alloc, program, object.opening())?;
+    let mut coded = coded(alloc, object)?;
+    let mut changes = Vec::with_capacity(alloc, calls.len())?;
     for call in calls {
-        let (next, _) = step(alloc, program, state, call, budget)?;
-        let after = state_lines(alloc, program, &next)?;
+        let asked = call.asked(alloc)?;
+        let _ = coded.call(&asked);
+        let state = coded.state(alloc, object.layout())?;
+        let after = state_lines(alloc, program, &state)?;
         changes.push(lines_changed(alloc, &lines, &after)?)?;
         lines = after;
-        state = next;
     }
     Ok(changes)
 }

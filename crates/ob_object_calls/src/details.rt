@@ -1,22 +1,23 @@
 //! A sequential run of which more is told than the replies: the variables that each call changed, and the turns that it took.
 
 ghost use Rattle.std.specs.Prelude.{◌≡◌, ◌<◌, Err, All, IfOk, IfErr, map, string_bytes};
-ghost use Rattle.ob_mean.specs.View.{call_of};
+ghost use Rattle.ob_code_correct.specs.Compiled.{Fits};
 ghost use Rattle.ob_object_compile.specs.Asked.{TellsAtOnce};
+ghost use Rattle.ob_object_compile.specs.Sound.{IsSoundObject};
 ghost use Rattle.ob_object_compile.specs.View.{asked_of, object_in};
 ghost use Rattle.ob_object_calls.specs.SequentialRun.{IsSeqRefusal};
 ghost use Rattle.ob_object_calls.specs.DetailLines.{told_lines};
 ghost use Rattle.ob_object_calls.specs.DetailedRun.{IsToldRun, TellsAt, TellsTurns, changes_told, replies_at};
 ghost use Rattle.ob_text_words.specs.ScriptCalls.{object_call, script_call_of};
 
-use crate::calls::{callers, object_calls, object_replies};
+use crate::calls::{callers, object_calls};
 use crate::changes::changes_in_turn;
 use crate::detail_lines::{Beside, print_told, push_budget_line};
-use crate::replies::replies_from;
+use crate::replies::replies_on;
 use crate::sequential::SeqTextFault;
 use ob_interface::NoMemory;
-use ob_mean::call::Call;
 use ob_mean::turns::turns_in_turn;
+use ob_object_compile::laws::compilations_are_sound;
 use ob_object_compile::{Asked, Object, compile_asked};
 use ob_text_scripts::read_scripts;
 use ob_text_words::script_call::ScriptCall;
@@ -43,6 +44,7 @@ pub fn seq_asked_told(
     ensures refused { IfErr result (IsSeqRefusal (asked_of asked.entry) script.now) }
     ensures at_once { TellsAtOnce (asked_of asked.entry) (λ e. result ≡ Err (SeqTextFault.Compile e)) }
 {
+    compilations_are_sound();
     let object = compile_asked(alloc, asked)?;
     let scripts = read_scripts(alloc, object.checked(), asked.processes, script)?;
     Ok(told_text(alloc, &object, scripts.calls(), details)?)
@@ -55,36 +57,39 @@ fn told_text(
     calls: &[ScriptCall],
     details: Details,
 ) -> Result<String, NoMemory>
-    requires { All (λ c. c.process < (object_in object.now).processes) calls.now }
+    requires sound { IsSoundObject (object_in object.now) }
+    requires fit { All (λ c. Fits (object_in object.now).program (object_call (script_call_of c))) calls.now }
+    requires processes { All (λ c. c.process < (object_in object.now).processes) calls.now }
     ensures { IfOk result (λ text. TellsAt details (object_in object.now) (map (λ c. object_call (script_call_of c)) calls.now)
         (map (λ c. c.process) calls.now) (string_bytes text)) }
 {
-    let asked = object_calls(alloc, calls)?;
-    let changes = changes_asked(alloc, object, &asked, details.state)?;
+    let changes = changes_asked(alloc, object, calls, details.state)?;
     if details.turns {
-        return text_with_turns(alloc, object, calls, &asked, &changes);
+        return text_with_turns(alloc, object, calls, &changes);
     }
     let beside = Beside {
         turns: &[],
         changes: &changes,
     };
-    text_beside(alloc, object, calls, &asked, beside)
+    text_beside(alloc, object, calls, beside)
 }
 
 /// The lines of the variables that each call changed, where they are asked for.
 fn changes_asked(
     alloc: Global,
     object: &Object,
-    calls: &[Call],
+    calls: &[ScriptCall],
     is_asked: bool,
 ) -> Result<Vec<String>, NoMemory>
-    ensures { IfOk result (λ changes. map string_bytes changes.items ≡ changes_told is_asked (object_in object.now) (map call_of calls.now)) }
+    requires sound { IsSoundObject (object_in object.now) }
+    requires fit { All (λ c. Fits (object_in object.now).program (object_call (script_call_of c))) calls.now }
+    ensures { IfOk result (λ changes. map string_bytes changes.items
+        ≡ changes_told is_asked (object_in object.now) (map (λ c. object_call (script_call_of c)) calls.now)) }
 {
     if !is_asked {
         return Ok(Vec::new(alloc));
     }
-    let opening = object.opening().copy(alloc)?;
-    changes_in_turn(alloc, object.checked(), opening, calls, object.budget())
+    changes_in_turn(alloc, object, calls)
 }
 
 /// The lines of calls with their replies, their turns and what they changed, and the least budget.
@@ -92,20 +97,22 @@ fn text_with_turns(
     alloc: Global,
     object: &Object,
     calls: &[ScriptCall],
-    asked: &[Call],
     changes: &[String],
 ) -> Result<String, NoMemory>
-    requires { All (λ c. c.process < (object_in object.now).processes) calls.now }
-    ensures { IfOk result (λ text. TellsTurns (object_in object.now) (map call_of asked.now) (map (λ c. c.process) calls.now)
-        (map string_bytes changes.now) (string_bytes text)) }
+    requires sound { IsSoundObject (object_in object.now) }
+    requires fit { All (λ c. Fits (object_in object.now).program (object_call (script_call_of c))) calls.now }
+    requires processes { All (λ c. c.process < (object_in object.now).processes) calls.now }
+    ensures { IfOk result (λ text. TellsTurns (object_in object.now) (map (λ c. object_call (script_call_of c)) calls.now)
+        (map (λ c. c.process) calls.now) (map string_bytes changes.now) (string_bytes text)) }
 {
+    let asked = object_calls(alloc, calls)?;
     let opening = object.opening().copy(alloc)?;
-    let turns = turns_in_turn(alloc, object.checked(), opening, asked, object.budget())?;
+    let turns = turns_in_turn(alloc, object.checked(), opening, &asked, object.budget())?;
     let beside = Beside {
         turns: &turns.taken,
         changes,
     };
-    let mut text = text_beside(alloc, object, calls, asked, beside)?;
+    let mut text = text_beside(alloc, object, calls, beside)?;
     push_budget_line(&mut text, turns.least)?;
     Ok(text)
 }
@@ -115,16 +122,16 @@ fn text_beside(
     alloc: Global,
     object: &Object,
     calls: &[ScriptCall],
-    asked: &[Call],
     beside: Beside<'_>,
 ) -> Result<String, NoMemory>
-    requires { All (λ c. c.process < (object_in object.now).processes) calls.now }
+    requires sound { IsSoundObject (object_in object.now) }
+    requires fit { All (λ c. Fits (object_in object.now).program (object_call (script_call_of c))) calls.now }
+    requires processes { All (λ c. c.process < (object_in object.now).processes) calls.now }
     ensures { IfOk result (λ text. string_bytes text ≡ told_lines beside.entry.turns.now (map string_bytes beside.entry.changes.now)
-        (map (λ c. c.process) calls.now) (replies_at (object_in object.now) (map call_of asked.now) (object_in object.now).engine.budget)) }
+        (map (λ c. c.process) calls.now)
+        (replies_at (object_in object.now) (map (λ c. object_call (script_call_of c)) calls.now) (object_in object.now).engine.budget)) }
 {
     let callers = callers(alloc, calls)?;
-    let opening = object.opening().copy(alloc)?;
-    let answers = replies_from(alloc, object.checked(), opening, asked, object.budget())?;
-    let replies = object_replies(alloc, &answers)?;
+    let replies = replies_on(alloc, object, calls)?;
     Ok(print_told(alloc, object.processes(), &callers, &replies, beside)?)
 }

@@ -1,34 +1,37 @@
-//! Calls made one at a time from a state.
+//! Calls made one at a time on an object, by its code.
 
-ghost use Rattle.std.specs.Prelude.{◌≡◌, IfOk, map};
-ghost use Rattle.ob_checked.specs.CheckedModule.{program_in};
+ghost use Rattle.std.specs.Prelude.{◌≡◌, All, IfOk, map};
+ghost use Rattle.ob_code_correct.specs.Compiled.{Fits};
+ghost use Rattle.ob_interface.specs.View.{reply_of};
 ghost use Rattle.ob_mean.specs.Sequences.{replies_to};
-ghost use Rattle.ob_mean.specs.View.{call_of, reply_of};
-ghost use Rattle.ob_store.specs.View.{state_of};
+ghost use Rattle.ob_object_compile.specs.Sound.{IsSoundObject};
+ghost use Rattle.ob_object_compile.specs.View.{object_in};
+ghost use Rattle.ob_text_words.specs.ScriptCalls.{object_call, script_call_of};
 
-use ob_checked::checked::Checked;
+use crate::coded_calls::coded;
 use ob_interface::NoMemory;
-use ob_mean::call::{Call, Reply};
-use ob_mean::object::step;
-use ob_store::state::State;
+use ob_interface::call::Reply;
+use ob_object_compile::Object;
+use ob_text_words::script_call::ScriptCall;
 use std::alloc::Global;
 
-/// The replies to calls made one at a time from a state, which is given up, each with the budget.
-pub(crate) fn replies_from(
+/// The replies to a script's calls, made one at a time from the state with which the object begins, each with its budget.
+pub(crate) fn replies_on(
     alloc: Global,
-    checked: &Checked,
-    opening: State,
-    calls: &[Call],
-    budget: u64,
+    object: &Object,
+    calls: &[ScriptCall],
 ) -> Result<Vec<Reply>, NoMemory>
-    ensures { IfOk result (λ rs. map reply_of rs.items ≡ replies_to (program_in checked.now) budget (state_of opening) (map call_of calls.now)) }
+    requires sound { IsSoundObject (object_in object.now) }
+    requires fit { All (λ c. Fits (object_in object.now).program (object_call (script_call_of c))) calls.now }
+    ensures { IfOk result (λ rs. map reply_of rs.items
+        ≡ replies_to (object_in object.now).program (object_in object.now).engine.budget (object_in object.now).opening
+        (map (λ c. object_call (script_call_of c)) calls.now)) }
 {
-    let mut state = opening;
-    let mut replies = Vec::new(alloc);
+    let mut coded = coded(alloc, object)?;
+    let mut replies = Vec::with_capacity(alloc, calls.len())?;
     for call in calls {
-        let (next, reply) = step(alloc, checked.program(), state, call, budget)?;
-        state = next;
-        replies.push(reply)?;
+        let asked = call.asked(alloc)?;
+        replies.push(coded.call(&asked))?;
     }
     Ok(replies)
 }

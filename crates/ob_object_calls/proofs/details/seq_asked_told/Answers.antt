@@ -2,10 +2,12 @@ use Rattle.std.proofs.Common.{◌<◌, ℕ, All, ap, subst, sym}
 use Rattle.std.proofs.lemmas.Result.{err_from_is_err_and}
 use Rattle.ob_checked.specs.Exports.{signatures}
 use Rattle.ob_code_correct.specs.CodeMeaning.{EngineParts}
+use Rattle.ob_code_correct.specs.Compiled.{Fits}
 use Rattle.ob_interface.specs.Export.{CallFits}
 use Rattle.ob_object_compile.proofs.Openings.{module_resolved}
 use Rattle.ob_object_compile.specs.View.{asked_of, object_in}
 use Rattle.ob_object_calls.proofs.Faults.{compile_refused, script_refused}
+use Rattle.ob_object_calls.proofs.SequenceFitting.{calls_fit}
 use Rattle.ob_object_calls.proofs.Runs.{each}
 use Rattle.ob_object_calls.proofs.ToldNamed.{tells}
 use Rattle.ob_text_scripts.specs.Script.{IsScript, IsScriptFault}
@@ -26,8 +28,22 @@ returns-in_err-scripts-clause-refused c =
     (script_refused a c.args.script.now (object_in c.in_ok-object.object) c.in_ok-object.ensures.object c.in_ok-object.ensures.alone c.in_err-scripts.field-0.0
     (subst (λ (q : Program). IsScriptFault (signatures q) a.processes c.args.script.now c.in_err-scripts.field-0.0) c.checked.ensures.program c.in_err-scripts.ensures.fault))
 
-pub told_text-requires : goal.told_text-requires
-told_text-requires c =
+pub told_text-requires-clause-sound : goal.told_text-requires-clause-sound
+told_text-requires-clause-sound c =
+    c.compilations_are_sound.ensures.coded (asked_of c.args.asked) (object_in c.in_ok-object.object) c.in_ok-object.ensures.object
+
+pub told_text-requires-clause-fit : goal.told_text-requires-clause-fit
+told_text-requires-clause-fit c =
+    let a = asked_of c.args.asked in
+    let o = object_in c.in_ok-object.object in
+    let calls = c.in_ok-scripts.scripts in
+    let fits = subst (λ (q : Program). All (λ (x : ScriptCall). CallFits (signatures q) (object_call x)) calls) c.checked.ensures.program c.in_ok-scripts.ensures.fit in
+    let read = subst (λ (q : Program). IsScript (signatures q) a.processes c.args.script.now calls) c.checked.ensures.program c.in_ok-scripts.ensures.script in
+    each (λ (x : ScriptCall). Fits o.program (object_call x)) script_call_of c.calls.result.now
+    (subst (All (λ (x : ScriptCall). Fits o.program (object_call x))) (sym c.calls.ensures) (calls_fit o.program a.processes c.args.script.now calls read fits))
+
+pub told_text-requires-clause-processes : goal.told_text-requires-clause-processes
+told_text-requires-clause-processes c =
     let o = object_in c.in_ok-object.object in
     let below = subst (λ (k : ℕ). All (λ (x : ScriptCall). x.process < k) c.in_ok-scripts.scripts) (sym c.in_ok-object.ensures.object.processes) c.in_ok-scripts.ensures.processes in
     each (λ (x : ScriptCall). x.process < o.processes) script_call_of c.calls.result.now

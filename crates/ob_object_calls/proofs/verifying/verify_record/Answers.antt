@@ -1,14 +1,12 @@
 use Rattle.std.proofs.Common.{inr, refl}
 use Rattle.std.proofs.lemmas.Result.{err_from_is_err_and}
 use Rattle.ob_checked.specs.CheckedModule.{program_in}
-use Rattle.ob_code_calls.specs.Standing.{StandsAt}
 use Rattle.ob_object_calls.proofs.Beginnings.{record_opened}
-use Rattle.ob_object_calls.proofs.VerifyByCode.{some_at}
+use Rattle.ob_object_calls.proofs.VerifyByCode.{code_stands}
 use Rattle.ob_object_calls.proofs.VerifyFitting.{calls_fit}
 use Rattle.ob_object_calls.proofs.Records.{accepted_here, legal_here, no_fault, no_opening, no_record, one_form, one_opening, one_order, order_fails}
 use Rattle.ob_object_calls.proofs.Typed.{beginning_typed}
 use Rattle.ob_object_calls.proofs.verifying.verify_record.Goals as goal
-use Rattle.ob_object_calls.specs.declared.coded_verifying.ByCode.{ByCode}
 use Rattle.ob_meaning.specs.ByPositionStore.{Activation}
 use Rattle.ob_store.specs.View.{state_of}
 
@@ -62,7 +60,7 @@ check_order_by-requires c =
       program = program_in c.args.checked.now;
       budget = c.in_ok-read.read.budget;
       state = state_of c.in_ok-begun.begun;
-      stands = some_at _ c.in-Some.code (λ (b : ByCode). StandsAt (program_in c.args.checked.now) c.in_ok-read.read.budget (state_of c.in_ok-begun.begun) b.coded) c.in-Some.is c.in_ok-code.ensures;
+      stands = code_stands (program_in c.args.checked.now) c.in_ok-read.read.budget (state_of c.in_ok-begun.begun) _ c.in-Some.code c.in-Some.is c.in_ok-code.ensures;
       takes = calls_fit (program_in c.args.checked.now) c.args.text.now _ c.in_ok-read.ensures.record;
     }
 
@@ -71,8 +69,7 @@ returns-in_err-check_order_by-clause-fault c =
     let program = program_in c.args.checked.now in
     let opening = state_of c.in_ok-begun.begun in
     let budget = c.in_ok-read.read.budget in
-    let stands : StandsAt program budget opening c.in-Some.code.coded =
-    some_at _ c.in-Some.code (λ (b : ByCode). StandsAt program budget opening b.coded) c.in-Some.is c.in_ok-code.ensures in
+    let stands = code_stands program budget opening _ c.in-Some.code c.in-Some.is c.in_ok-code.ensures in
     let p = err_from_is_err_and c.from_residual-in_err-check_order_by.result c.from_residual-in_err-check_order_by.ensures.1 in
     rw (p.1, p.2)
     (order_fails program c.args.text.now _ c.in_ok-read.ensures.record c.in_ok-read.ensures.alone _ c.in_ok-begun.ensures.state c.in_err-check_order_by.field-0.0
@@ -83,8 +80,7 @@ returns-in_err-check_order_by-clause-lawful c =
     let program = program_in c.args.checked.now in
     let opening = state_of c.in_ok-begun.begun in
     let budget = c.in_ok-read.read.budget in
-    let stands : StandsAt program budget opening c.in-Some.code.coded =
-    some_at _ c.in-Some.code (λ (b : ByCode). StandsAt program budget opening b.coded) c.in-Some.is c.in_ok-code.ensures in
+    let stands = code_stands program budget opening _ c.in-Some.code c.in-Some.is c.in_ok-code.ensures in
     let p = err_from_is_err_and c.from_residual-in_err-check_order_by.result c.from_residual-in_err-check_order_by.ensures.1 in
     rw (p.1, p.2)
     (accepted_here program c.args.text.now _ c.in_ok-read.ensures.record c.in_ok-read.ensures.alone _ c.in_ok-begun.ensures.state c.in_err-check_order_by.field-0.0
@@ -95,8 +91,7 @@ returns-in_err-check_order_by-clause-exact c =
     let program = program_in c.args.checked.now in
     let opening = state_of c.in_ok-begun.begun in
     let budget = c.in_ok-read.read.budget in
-    let stands : StandsAt program budget opening c.in-Some.code.coded =
-    some_at _ c.in-Some.code (λ (b : ByCode). StandsAt program budget opening b.coded) c.in-Some.is c.in_ok-code.ensures in
+    let stands = code_stands program budget opening _ c.in-Some.code c.in-Some.is c.in_ok-code.ensures in
     let p = err_from_is_err_and c.from_residual-in_err-check_order_by.result c.from_residual-in_err-check_order_by.ensures.1 in
     rw (p.1, p.2)
     (one_order program c.args.text.now _ c.in_ok-read.ensures.record c.in_ok-read.ensures.alone _ c.in_ok-begun.ensures.state c.in_err-check_order_by.field-0.0
@@ -107,8 +102,7 @@ returns-in-Some-clause-legal c =
     let program = program_in c.args.checked.now in
     let opening = state_of c.in_ok-begun.begun in
     let budget = c.in_ok-read.read.budget in
-    let stands : StandsAt program budget opening c.in-Some.code.coded =
-    some_at _ c.in-Some.code (λ (b : ByCode). StandsAt program budget opening b.coded) c.in-Some.is c.in_ok-code.ensures in
+    let stands = code_stands program budget opening _ c.in-Some.code c.in-Some.is c.in_ok-code.ensures in
     let l = rw c.deref.ensures.value at (c.in_ok-check_order_by.ensures.legal program budget opening stands) in
     legal_here program c.args.text.now _ c.in_ok-read.ensures.record c.in_ok-read.ensures.alone _ c.in_ok-begun.ensures.state l.0 l.1
 
@@ -117,8 +111,7 @@ returns-in-Some-clause-exact c =
     let program = program_in c.args.checked.now in
     let opening = state_of c.in_ok-begun.begun in
     let budget = c.in_ok-read.read.budget in
-    let stands : StandsAt program budget opening c.in-Some.code.coded =
-    some_at _ c.in-Some.code (λ (b : ByCode). StandsAt program budget opening b.coded) c.in-Some.is c.in_ok-code.ensures in
+    let stands = code_stands program budget opening _ c.in-Some.code c.in-Some.is c.in_ok-code.ensures in
     no_fault program c.args.text.now _ c.in_ok-read.ensures.record c.in_ok-read.ensures.alone _ c.in_ok-begun.ensures.state
     (rw c.deref.ensures.value at (c.in_ok-check_order_by.ensures.exact program budget opening stands))
 
