@@ -8,4 +8,5 @@ mod Formals
 mod Found
 mod Instructions
 mod Laid
+pub mod Leaps
 mod Made

@@ -1,6 +1,6 @@
 //! The engine over compiled code.
 
-ghost use Rattle.std.specs.Prelude.{◌≡◌, ◌≤◌, ◌↔◌, IsTrue, length};
+ghost use Rattle.std.specs.Prelude.{◌≡◌, ◌<◌, ◌≤◌, ◌↔◌, IsTrue, length};
 ghost use Rattle.ob_code_engine.specs.CodeEngine.{engine_parts};
 ghost use Rattle.ob_code_correct.specs.CodeMeaning.{most, result_count, value_count};
 ghost use Rattle.ob_code_correct.specs.Parts.{HasProgram};
@@ -59,6 +59,7 @@ impl CodeEngine {
     ghost use Rattle.ob_interface.specs.Call.{Answers};
     ghost use Rattle.ob_interface.specs.View.{reply_of};
     ghost use Rattle.ob_code_engine.specs.CodeEngine.{HasSameNumbers};
+    ghost use Rattle.wf_table.specs.Meaning.{steps};
 
     /// The engine of a checked module, by its layout and its code, with a budget of turns for each call.
     pub fn new(
@@ -170,6 +171,17 @@ impl CodeEngine {
             Some(export) => export.parameters(),
             None => &[],
         }
+    }
+
+    /// One step of a body on a block, or two that are one move: what the last of them answers, and how many they were.
+    #[inline(always)]
+    pub fn leap(&self, run: &mut Body, block: &mut [i64]) -> (EngineTurn, u64)
+        ensures some { 0 < result.1 }
+        ensures few { result.1 ≤ 2 }
+        ensures steps { record { turn = result.0; run = run.new; block = block.new } ≡ steps (Words.code_meaning self.now.parts) result.1 run.old block.old }
+    {
+        let (turn, taken) = run.leap(&self.code, block);
+        (turn_of(turn), taken)
     }
 
     /// The reply of a call of an export that has ended, from the words of its results; nothing where there is no such export.

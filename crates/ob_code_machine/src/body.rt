@@ -5,6 +5,8 @@ ghost use Rattle.ob_code_machine.specs.Machine as Machine;
 ghost use Rattle.ob_code_machine.specs.Body.{ShowsOnAnyBlock, empty, entered, shown, at, step_of};
 ghost use Rattle.ob_code_machine.specs.Parameters.{arguments_in};
 
+mod leaps;
+
 use crate::argument::Argument;
 use crate::code::Code;
 use crate::effect::{Answer, effect};

@@ -32,7 +32,7 @@ fn push(stack: &mut Stack, word: i64) -> Answer
 
 /// The address of a word of the frame.
 #[inline(always)]
-fn local_address(variables: usize, fp: usize, word: u16) -> Option<i64>
+pub(crate) fn local_address(variables: usize, fp: usize, word: u16) -> Option<i64>
     ensures { IsMade result (Words.address (pos (variables + fp + word))) }
 {
     let place = variables.checked_add(fp)?.checked_add(usize::from(word))?;
@@ -103,7 +103,7 @@ fn of_two(stack: &mut Stack, instr: Instr) -> Answer
 
 /// The word at an address, on a stack that ends at a height.
 #[inline(always)]
-fn word_at(block: &[i64], stack: &Stack, height: usize, address: i64) -> Option<i64>
+pub(crate) fn word_at(block: &[i64], stack: &Stack, height: usize, address: i64) -> Option<i64>
     requires { height ≤ length stack.now.words }
     ensures { IsMade result (Effects.word_at block.now (take height stack.now.words) address) }
 {
