@@ -1,5 +1,5 @@
 -- Steps of a body, one taken off the front.
-use Rattle.std.proofs.Common.{◌≡◌, ℕ, suc, ◌+◌, ◌-◌, ◌<◌, true, List, refl, sym, ap, ◌∙◌, arith}
+use Rattle.std.proofs.Common.{◌≡◌, ℕ, zero, suc, ◌+◌, ◌-◌, ◌<◌, ◌≤◌, true, List, refl, sym, ap, ◌∙◌, arith}
 use Rattle.std.specs.Prelude.{ℤ}
 use Rattle.wf_table.specs.declared.engine_turn.EngineTurn.{EngineTurn}
 use Rattle.wf_table.specs.declared.engine_turn.EngineTurn.TheVariants.{On, Returned, Trapped, Stuck}
@@ -41,3 +41,44 @@ module _ {Run : Type 0} (m : Meaning Run) where
         ∙ ap (λ (u : EngineTurn). record { turn = u; run = (m.step run block).run; block = (m.step run block).block }) (sym turn)
         ∙ ap (λ (x : Run). record { turn = t; run = x; block = (m.step run block).block }) (sym r)
         ∙ ap (λ (x : List ℤ). record { turn = t; run = run'; block = x }) (sym b)
+
+  -- ---- several at once
+
+  -- what comes behind the first ones comes behind all
+  after_first : (t : EngineTurn) (s first whole : Turned Run) (go : Turned Run → Turned Run) → t ≡ s.turn → whole ≡ after_turn first.turn first (go first)
+      → after_turn t s whole ≡ after_turn (after_turn t s first).turn (after_turn t s first) (go (after_turn t s first))
+  after_first On s first whole go is h = h
+  after_first Returned s first whole go is h = ap (λ (u : EngineTurn). after_turn u s (go s)) is
+  after_first (Trapped k) s first whole go is h = ap (λ (u : EngineTurn). after_turn u s (go s)) is
+  after_first Stuck s first whole go is h = ap (λ (u : EngineTurn). after_turn u s (go s)) is
+
+  -- so many steps, and then so many
+  split : (j k n : ℕ) (run : Run) (block : List ℤ) → n ≡ j + k
+      → steps m n run block ≡ after_turn (steps m j run block).turn (steps m j run block) (steps m k (steps m j run block).run (steps m j run block).block)
+  split zero k n run block e = let same : n ≡ k = omega arith in ap (λ (i : ℕ). steps m i run block) same
+  split (suc j) k n run block e =
+      let s = m.step run block in
+      let more : n ≡ suc (j + k) = omega arith in
+      ap (λ (i : ℕ). steps m i run block) more
+      ∙ after_first s.turn s (steps m j s.run s.block) (steps m (j + k) s.run s.block) (λ (t : Turned Run). steps m k t.run t.block) refl (split j k (j + k) s.run s.block refl)
+
+  module _ (most i j : ℕ) (below : i + j ≤ most) (run : Run) (block : List ℤ) where
+    parted : most - i ≡ j + (most - (i + j))
+    parted = omega arith
+
+    behind : (t : Turned Run) → t ≡ steps m j run block → steps m (most - i) run block ≡ after_turn t.turn t (steps m (most - (i + j)) t.run t.block)
+    behind t is =
+        split j (most - (i + j)) (most - i) run block parted
+        ∙ ap (λ (t : Turned Run). after_turn t.turn t (steps m (most - (i + j)) t.run t.block)) (sym is)
+
+    -- behind steps that go on
+    pub leaps_on : (t : EngineTurn) (run' : Run) (block' : List ℤ) → On ≡ t → record { turn = t; run = run'; block = block' } ≡ steps m j run block
+        → steps m (most - i) run block ≡ steps m (most - (i + j)) run' block'
+    leaps_on t run' block' on is =
+        behind (record { turn = t; run = run'; block = block' }) is
+        ∙ ap (λ (u : EngineTurn). after_turn u (record { turn = t; run = run'; block = block' }) (steps m (most - (i + j)) run' block')) (sym on)
+
+    -- behind some that do not
+    pub leaps_last : (t : EngineTurn) (run' : Run) (block' : List ℤ) → (t ≡ On → ⊥) → record { turn = t; run = run'; block = block' } ≡ steps m j run block
+        → steps m (most - i) run block ≡ record { turn = t; run = run'; block = block' }
+    leaps_last t run' block' not_on is = behind (record { turn = t; run = run'; block = block' }) is ∙ stays t (record { turn = t; run = run'; block = block' }) _ (over_of t not_on)

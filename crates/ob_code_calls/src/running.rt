@@ -39,13 +39,19 @@ pub(crate) fn run_on(
     ensures ready { HasReserve engine.now.parts run.new }
     ensures steps { record { turn = result.0; run = run.new; block = block.new } ≡ steps (meaning_of engine.now.parts) most run.old block.old }
 {
-    for count in 0..most {
-        match engine.step(run, block) {
+    let mut count = 0;
+    while most - count >= 2 {
+        let (turn, taken) = engine.leap(run, block);
+        count += taken;
+        match turn {
             EngineTurn::On => {}
-            turn => return (turn, count + 1),
+            turn => return (turn, count),
         }
     }
-    (EngineTurn::On, most)
+    if count == most {
+        return (EngineTurn::On, most);
+    }
+    (engine.step(run, block), most)
 }
 
 /// The same. Where the body traps, the block is as it was: it is kept in other words meanwhile.
