@@ -82,3 +82,20 @@ module _ {Run : Type 0} (m : Meaning Run) where
     pub leaps_last : (t : EngineTurn) (run' : Run) (block' : List ℤ) → (t ≡ On → ⊥) → record { turn = t; run = run'; block = block' } ≡ steps m j run block
         → steps m (most - i) run block ≡ record { turn = t; run = run'; block = block' }
     leaps_last t run' block' not_on is = behind (record { turn = t; run = run'; block = block' }) is ∙ stays t (record { turn = t; run = run'; block = block' }) _ (over_of t not_on)
+
+  one_after : (t : EngineTurn) (s : Turned Run) → t ≡ s.turn → after_turn t s (record { turn = On; run = s.run; block = s.block }) ≡ s
+  one_after On s is = ap (λ (u : EngineTurn). record { turn = u; run = s.run; block = s.block }) is
+  one_after Returned s is = refl
+  one_after (Trapped k) s is = refl
+  one_after Stuck s is = refl
+
+  -- where one is left
+  pub one_left : (left : ℕ) (run : Run) (block : List ℤ) (t : EngineTurn) (run' : Run) (block' : List ℤ) → left ≡ 1
+      → t ≡ (m.step run block).turn → run' ≡ (m.step run block).run → block' ≡ (m.step run block).block
+      → steps m left run block ≡ record { turn = t; run = run'; block = block' }
+  one_left left run block t run' block' one turn r b =
+      ap (λ (k : ℕ). steps m k run block) one
+      ∙ one_after (m.step run block).turn (m.step run block) refl
+      ∙ ap (λ (u : EngineTurn). record { turn = u; run = (m.step run block).run; block = (m.step run block).block }) (sym turn)
+      ∙ ap (λ (x : Run). record { turn = t; run = x; block = (m.step run block).block }) (sym r)
+      ∙ ap (λ (x : List ℤ). record { turn = t; run = run'; block = x }) (sym b)
