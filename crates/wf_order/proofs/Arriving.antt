@@ -11,12 +11,13 @@ use Rattle.wf_history.specs.History.{Event, Begin}
 use Rattle.wf_history.proofs.Positions.{place_push, place_left, contains_at, one_item}
 use Rattle.wf_order.specs.declared.rows.Rows.{Rows}
 use Rattle.wf_order.specs.declared.search.Frame.{Frame}
-use Rattle.wf_order.specs.Rows.{AreRows, begun_rows, row_of}
+use Rattle.wf_order.specs.Rows.{AreRows, begun_rows, call_at, row_of}
 use Rattle.wf_order.specs.Rules.{IsAnswered}
-use Rattle.wf_order.specs.Steps.{Configuration, IsLimit, IsStep, IsDone}
-use Rattle.wf_order.specs.Search.{IsAttempt, IsSilentStep, IsSearch, LeadsOn, IsArrival, left, weights, work}
+use Rattle.wf_order.specs.Steps.{Configuration, IsLimit, IsStep, IsDone, one_more}
+use Rattle.wf_order.specs.Search.{IsAttempt, IsChoice, IsSilentStep, IsSearch, LeadsOn, IsArrival, left, weights, work}
 use Rattle.wf_order.specs.Turns.{BeginsFrom, turns}
 use Rattle.wf_order.proofs.Searching.{answered_grown, top_led, popped_answered, advanced, pushed, led_done, places_within}
+use Rattle.wf_order.proofs.Turning.{fewer_behind}
 use Rattle.wf_order.proofs.Weights.{left_step, pop_less, try_less, push_less}
 
 module _ {M : Type 0} (Effect : ObjectCall → M → M → Reply → Type 0) (history : List (Event ObjectCall Reply)) (processes : ℕ) (rows : Rows) (are : AreRows history processes rows)
@@ -149,3 +150,35 @@ module _ {M : Type 0} (Effect : ObjectCall → M → M → Reply → Type 0) (hi
         | inl answered ↦ subst (λ (l : List (Configuration M)). IsAnswered Effect history l c other e) (sym is) (answered_grown Effect history processes Led leads_on start found later c other e answered)
         | inr same ↦ inl (subst (λ (x : Configuration M). Contains all x) (sym same) there)
       ]
+
+-- The step is the one that is tried: fewer turns are left, and what begins up to the next place was tried, or need not be.
+pub record IsTried {M : Type 0} (Effect : ObjectCall → M → M → Reply → Type 0) (history : List (Event ObjectCall Reply)) (rows : Rows) (found : List (Configuration M)) (c : Configuration M) (from next : ℕ) (id : CallId) (d : Configuration M) : Type 0 where
+  pub step : IsStep Effect history c id d
+  pub fewer : turns next (begun_rows rows) c.counts + 1 ≤ turns from (begun_rows rows) c.counts
+  pub covers : (all later : List (Configuration M)) → all ≡ found ++ later → Contains all d → (other : CallId) (e : Configuration M) (call : ObjectCall) (begun : ℕ) → slice_get history begun ≡ Some (Begin other call) → from ≤ begun → begun < next →
+      IsStep Effect history c other e → IsAnswered Effect history all c other e
+
+module _ {M : Type 0} (Effect : ObjectCall → M → M → Reply → Type 0) (history : List (Event ObjectCall Reply)) (processes : ℕ) (Led : List CallId → Configuration M → Type 0) (leads_on : LeadsOn Effect history Led) (start : Configuration M)
+    (rows : Rows) (found : List (Configuration M)) (c : Configuration M) (are : AreRows history (length c.counts) rows) (limit : ℕ) (bound : IsLimit history c.counts limit) (from next process : ℕ) (after : M) where
+  chosen_is : IsChoice Effect history rows found c from limit next process after → IsTried Effect history rows found c from next (call_at process (get_or c.counts process 0)) (one_more c.counts process after)
+  chosen_is (inl try) = record {
+    step = try.step;
+    fewer = try.fewer;
+    covers = attempt_covers Effect history c (call_at process (get_or c.counts process 0)) (one_more c.counts process after) processes Led leads_on start rows found from next try;
+  }
+  chosen_is (inr silent) =
+      let id = call_at process (get_or c.counts process 0) in
+      let d = one_more c.counts process after in
+      let fewer = fewer_behind Effect history rows c are limit bound from silent.1 id d silent.0.0 in
+      record {
+        step = silent.0.0;
+        fewer = subst (λ (n : ℕ). turns n (begun_rows rows) c.counts + 1 ≤ turns from (begun_rows rows) c.counts) (sym silent.2) fewer;
+        covers = λ all later is there other e call begun at le lt s. silent_covers Effect history c id d all there other e silent.0;
+      }
+
+  -- what is chosen is tried, by its name and by what is found there
+  pub chosen_tried : (id : CallId) (d : Configuration M) → id ≡ call_at process (get_or c.counts process 0) → d ≡ one_more c.counts process after → IsChoice Effect history rows found c from limit next process after →
+      IsTried Effect history rows found c from next id d
+  chosen_tried id d id_is there choice =
+      subst (λ (i : CallId). IsTried Effect history rows found c from next i d) (sym id_is)
+      (subst (λ (x : Configuration M). IsTried Effect history rows found c from next (call_at process (get_or c.counts process 0)) x) (sym there) (chosen_is choice))

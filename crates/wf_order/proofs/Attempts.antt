@@ -1,21 +1,17 @@
 -- What is tried next, and what was tried before.
-use Rattle.std.proofs.Common.{◌≡◌, sym, subst, ℕ, ◌+◌, ◌<◌, ◌≤◌, List, length, get_or, Some, None, arith, inl, inr}
+use Rattle.std.proofs.Common.{◌≡◌, ℕ, ◌+◌, ◌<◌, ◌≤◌, List, length, Some, arith, inl, inr}
 use Rattle.std.proofs.lemmas.Bool.{cases_lt}
 use Rattle.std.specs.List.{slice_get}
 use Rattle.ob_interface.specs.Call.{ObjectCall, Reply}
 use Rattle.wf_history.specs.declared.event.CallId.{CallId}
 use Rattle.wf_history.specs.History.{Event, Begin}
-use Rattle.wf_history.specs.View.{seen_call}
-use Rattle.wf_order.specs.declared.rows.Begun.{Begun}
 use Rattle.wf_order.specs.declared.rows.Rows.{Rows}
 use Rattle.wf_order.specs.declared.turn.Turn.{Turn}
-use Rattle.wf_order.specs.Rows.{AreRows, begun_rows, ended_rows, row_of}
-use Rattle.wf_order.specs.Rules.{AreBehind, AreIdle, IsOpen}
+use Rattle.wf_order.specs.Rows.{AreRows, begun_rows}
+use Rattle.wf_order.specs.Rules.{AreBehind, AreIdle}
 use Rattle.wf_order.specs.Search.{AreAllAnswered, AreAnswered, AreCovered, HasNoStep, IsAttempt, IsOnlyStep}
 use Rattle.wf_order.specs.Steps.{Configuration, IsLimit, IsStep}
 use Rattle.wf_order.specs.Turns.{IsFirstTurn, turns}
-use Rattle.wf_order.proofs.Replacing.{open_in}
-use Rattle.wf_order.proofs.Stepping.{next_id, own_effect}
 use Rattle.wf_order.proofs.Turning.{fewer_left, next_is, none_left, of_turn}
 
 module _ {M : Type 0} (Effect : ObjectCall → M → M → Reply → Type 0) (history : List (Event ObjectCall Reply)) (found : List (Configuration M)) (c : Configuration M) (process : ℕ) where
@@ -27,17 +23,6 @@ module _ {M : Type 0} (Effect : ObjectCall → M → M → Reply → Type 0) (hi
 
   pub idle_answered : AreIdle Effect history c process → AreAnswered Effect history found c process
   idle_answered idle id d own s = inr (inr (inr (idle id d own s)))
-
--- the next call never ends, and leaves each state as it is
-pub idle_from : {M : Type 0} (Effect : ObjectCall → M → M → Reply → Type 0)
-    (determined : (call : ObjectCall) (before after other : M) (reply answer : Reply) → Effect call before after reply → Effect call before other answer → (after ≡ other) × (reply ≡ answer))
-    (history : List (Event ObjectCall Reply)) (rows : Rows) (c : Configuration M) (are : AreRows history (length c.counts) rows) (limit : ℕ) (bound : IsLimit history c.counts limit) (process k : ℕ) (is : k ≡ get_or c.counts process 0)
-    (b : Begun) → slice_get (row_of (begun_rows rows) process) k ≡ Some b → slice_get (row_of (ended_rows rows) process) k ≡ None →
-    ((before after : M) (reply : Reply) → Effect (seen_call b.call) before after reply → before ≡ after) → AreIdle Effect history c process
-idle_from Effect determined history rows c are limit bound process k is b at none leaves id d own s = record {
-  opened = subst (λ (i : CallId). IsOpen history i) (sym (next_id Effect determined history rows c are limit bound process k is id d own s)) (open_in history (length c.counts) rows are process k none);
-  same = leaves c.state d.state s.reply (own_effect Effect determined history rows c are limit bound process k is b at id d own s);
-}
 
 module _ {M : Type 0} (Effect : ObjectCall → M → M → Reply → Type 0) (history : List (Event ObjectCall Reply)) (rows : Rows) (found : List (Configuration M)) (c : Configuration M) (are : AreRows history (length c.counts) rows)
     (limit : ℕ) (bound : IsLimit history c.counts limit) (from : ℕ) where

@@ -250,58 +250,106 @@ module _ {State Call Reply : Type 0} (Effect : Call → State → State → Repl
     not_behind_open : (a : CallId) → Before history x a → ⊥
     not_behind_open a bef = let e = ends_before history bef in opened e.0 e.1
 
-    done_without : (counts taken : List ℕ) (s : State) → IsNext counts x → taken ≡ set counts x.process x.number → IsDone Effect history (record { counts = taken; state = s }) →
-        IsHopeful 0 (record { counts = counts; state = s })
-    done_without counts taken s next is done = record {
-      ids = [];
-      last = record { counts = counts; state = s };
-      path = none;
-      done = λ id reply ended. elim (taken_back counts x next.process next.number id (subst (λ (xs : List ℕ). IsTaken xs id) is (done id reply ended))) [
+    -- a step behind it
+    module _ (c d f : Configuration State) (id : CallId) (next : IsNext c.counts x) (is : d.counts ≡ set c.counts x.process x.number) (t : IsStep Effect history d id f) where
+      step_number : id.number ≡ get_or (set c.counts x.process x.number) id.process 0 + 1
+      step_number = t.number ∙ ap (λ (xs : List ℕ). get_or xs id.process 0 + 1) is
+
+      -- is of another process
+      pub not_own : x.process ≡ id.process → ⊥
+      not_own own =
+          let number = step_number in
+          let here : get_or (set c.counts x.process x.number) id.process 0 ≡ x.number = ap (λ (p : ℕ). get_or (set c.counts x.process x.number) p 0) (sym own) ∙ get_or-set_same c.counts x.process x.number 0 next.process in
+          let positive = next.number in
+          not_behind_open id (subst (λ (y : CallId). Before history y id) (same_call (record { process = id.process; number = x.number }) x (sym own) refl)
+          (before_own history whole id t.call x.number t.begun (omega (arith, positive)) (omega (arith, number, here))))
+
+      pub own_within : id.process < length c.counts
+      own_within =
+          let size : length d.counts ≡ length c.counts = ap length is ∙ length-set c.counts x.process x.number in
+          let process = t.process in
+          omega (arith, size, process)
+
+      pub own_number : id.number ≡ get_or c.counts id.process 0 + 1
+      own_number = step_number ∙ ap (λ (n : ℕ). n + 1) (get_or-set_other c.counts x.process id.process x.number 0 (λ e. not_own (sym e)))
+
+      pub own_earlier : (a : CallId) → Before history a id → IsTaken c.counts a
+      own_earlier a bef = elim (taken_back c.counts x next.process next.number a (subst (λ (xs : List ℕ). IsTaken xs a) is (t.earlier a bef))) [
         | inl old ↦ old
-        | inr same ↦ absurd (opened reply (subst (λ (i : CallId). Contains history (End i reply)) (sym same) ended))
-      ];
-      size = refl;
-    }
+        | inr same ↦ absurd (not_behind_open id (subst (λ (y : CallId). Before history y id) (sym same) bef))
+      ]
 
-    without_moved : {d e : Configuration State} {ids : List CallId} → Leads Effect history d ids e → IsDone Effect history e →
-        (counts : List ℕ) → IsNext counts x → d.counts ≡ set counts x.process x.number → IsHopeful (length ids) (record { counts = counts; state = d.state })
-    without_moved (none {c}) done counts next is = done_without counts c.counts c.state next is done
-    without_moved (more {c} {d} {e} {id} {ids} t l) done counts next is =
-        let number : id.number ≡ get_or (set counts x.process x.number) id.process 0 + 1 = t.number ∙ ap (λ (xs : List ℕ). get_or xs id.process 0 + 1) is in
-        let not_own : x.process ≡ id.process → ⊥ =
-        λ own.
-        let here : get_or (set counts x.process x.number) id.process 0 ≡ x.number = ap (λ (p : ℕ). get_or (set counts x.process x.number) p 0) (sym own) ∙ get_or-set_same counts x.process x.number 0 next.process in
-        let positive = next.number in
-        not_behind_open id (subst (λ (y : CallId). Before history y id) (same_call (record { process = id.process; number = x.number }) x (sym own) refl)
-        (before_own history whole id t.call x.number t.begun (omega (arith, positive)) (omega (arith, number, here)))) in
-        let size : length c.counts ≡ length counts = ap length is ∙ length-set counts x.process x.number in
-        let process = t.process in
-        let within : id.process < length counts = omega (arith, size, process) in
-        let own_number : id.number ≡ get_or counts id.process 0 + 1 = number ∙ ap (λ (n : ℕ). n + 1) (get_or-set_other counts x.process id.process x.number 0 (λ e. not_own (sym e))) in
-        let step : IsStep Effect history (record { counts = counts; state = c.state }) id (record { counts = set counts id.process id.number; state = d.state }) =
-        record {
-          call = t.call;
-          begun = t.begun;
-          process = within;
-          number = own_number;
-          earlier = λ a bef. elim (taken_back counts x next.process next.number a (subst (λ (xs : List ℕ). IsTaken xs a) is (t.earlier a bef))) [
-            | inl old ↦ old
-            | inr same ↦ absurd (not_behind_open id (subst (λ (y : CallId). Before history y id) (sym same) bef))
-          ];
-          reply = t.reply;
-          effect = t.effect;
-          agrees = t.agrees;
-          counts = refl;
-        } in
-        let there : d.counts ≡ set (set counts id.process id.number) x.process x.number =
-        t.counts ∙ ap (λ (xs : List ℕ). set xs id.process id.number) is ∙ set_swap counts x.process id.process x.number id.number not_own in
-        let r = without_moved l done (set counts id.process id.number) (next_kept counts x id not_own next) there in
-        hope_more (length ids) _ _ id step r
+      -- comes without it, where it leads to a state then
+      pub step_without : (after : State) (reply : Reply) → Effect t.call c.state after reply → ((other : Reply) → Contains history (End id other) → other ≡ reply) →
+          IsStep Effect history c id (record { counts = set c.counts id.process id.number; state = after })
+      step_without after reply effect agrees = record {
+        call = t.call;
+        begun = t.begun;
+        process = own_within;
+        number = own_number;
+        earlier = own_earlier;
+        reply = reply;
+        effect = effect;
+        agrees = agrees;
+        counts = refl;
+      }
 
-  -- Law: of a configuration that a call leads to which does not end and leaves the state, and from which steps lead to one that
-  -- is done, the one before goes on, too.
+      pub counts_behind : f.counts ≡ set (set c.counts id.process id.number) x.process x.number
+      counts_behind = t.counts ∙ ap (λ (xs : List ℕ). set xs id.process id.number) is ∙ set_swap c.counts x.process id.process x.number id.number not_own
+
+    done_without : (c d : Configuration State) → IsNext c.counts x → d.counts ≡ set c.counts x.process x.number → IsDone Effect history d → IsDone Effect history c
+    done_without c d next is done = λ id reply ended. elim (taken_back c.counts x next.process next.number id (subst (λ (xs : List ℕ). IsTaken xs id) is (done id reply ended))) [
+      | inl old ↦ old
+      | inr same ↦ absurd (opened reply (subst (λ (i : CallId). Contains history (End i reply)) (sym same) ended))
+    ]
+
+    pub without_moved : {d e : Configuration State} {ids : List CallId} → Leads Effect history d ids e → IsDone Effect history e →
+        (c : Configuration State) → IsNext c.counts x → d.counts ≡ set c.counts x.process x.number → d.state ≡ c.state → IsHopeful (length ids) c
+    without_moved (none {c = d}) done c next is same = record { ids = []; last = c; path = none; done = done_without c d next is done; size = refl }
+    without_moved (more {c = d} {d = f} {e} {id} {ids} t l) done c next is same =
+        let step = step_without c d f id next is t f.state t.reply (subst (λ (s : State). Effect t.call s f.state t.reply) same t.effect) t.agrees in
+        let r = without_moved l done (record { counts = set c.counts id.process id.number; state = f.state }) (next_kept c.counts x id (not_own c d f id next is t) next) (counts_behind c d f id next is t) refl in
+        hope_more (length ids) c _ id step r
+
+  -- an open call that comes behind another one, and leaves the state, comes before it
+  swapped : (whole : IsHistory history) (x : CallId) (opened : IsOpen history x) (c d e : Configuration State) (id : CallId) (s : IsStep Effect history c x d) → IsStep Effect history d id e → IsOpen history id → e.state ≡ d.state →
+      (n : ℕ) → IsHopeful n e → IsHopeful (suc n) c
+  swapped whole x opened c d e id s t opened_other same n h =
+      let next : IsNext c.counts x = record { process = s.process; number = s.number } in
+      let ne = not_own whole x opened c d e id next s.counts t in
+      let front : Configuration State = record { counts = set c.counts id.process id.number; state = c.state } in
+      let size = length-set c.counts id.process id.number in
+      let process = s.process in
+      let step : IsStep Effect history front x (record { counts = set (set c.counts id.process id.number) x.process x.number; state = d.state }) =
+      record {
+        call = s.call;
+        begun = s.begun;
+        process = omega (arith, size, process);
+        number = s.number ∙ ap (λ (n : ℕ). n + 1) (sym (get_or-set_other c.counts id.process x.process id.number 0 ne));
+        earlier = λ a bef. taken_more c.counts id (own_within whole x opened c d e id next s.counts t) (own_number whole x opened c d e id next s.counts t) a (s.earlier a bef);
+        reply = s.reply;
+        effect = s.effect;
+        agrees = s.agrees;
+        counts = refl;
+      } in
+      let there : e ≡ record { counts = set (set c.counts id.process id.number) x.process x.number; state = d.state } = same_configuration (counts_behind whole x opened c d e id next s.counts t) same in
+      let r = hope_more n front _ x step (subst (λ (y : Configuration State). IsHopeful n y) there h) in
+      let own : IsNext c.counts id = record { process = own_within whole x opened c d e id next s.counts t; number = own_number whole x opened c d e id next s.counts t } in
+      subst (λ (k : ℕ). IsHopeful k c) r.size (without_moved whole id opened_other r.path r.done c own refl refl)
+
+  idle_moved : (whole : IsHistory history) (c : Configuration State) (x : CallId) {d e : Configuration State} {ids : List CallId} → Leads Effect history d ids e → IsDone Effect history e → IsStep Effect history c x d → IsIdle Effect history c x d → IsHopeful (length ids) c
+  idle_moved whole c x (none {c = d}) done s idle =
+      record { ids = []; last = c; path = none; done = done_without whole x idle.opened c d (record { process = s.process; number = s.number }) s.counts done; size = refl }
+  idle_moved whole c x (more {c = d} {d = f} {e} {id} {ids} t l) done s idle =
+      let next : IsNext c.counts x = record { process = s.process; number = s.number } in
+      elim (idle.without id f t) [
+        | inl leaves ↦ swapped whole x idle.opened c d f id s t leaves.0 leaves.1 (length ids) (record { ids = ids; last = e; path = l; done = done; size = refl })
+        | inr alike ↦
+            hope_more (length ids) c alike.0 id alike.1
+            (without_moved whole x idle.opened l done alike.0 (subst (λ (xs : List ℕ). IsNext xs x) (sym alike.1.counts) (next_kept c.counts x id (not_own whole x idle.opened c d f id next s.counts t) next))
+            (counts_behind whole x idle.opened c d f id next s.counts t ∙ ap (λ (xs : List ℕ). set xs x.process x.number) (sym alike.1.counts)) (sym alike.2))
+      ]
+
+  -- Law: of a configuration that an idle call leads to, and from which steps lead to one that is done, the one before goes on, too.
   pub without_idle : (whole : IsHistory history) (n : ℕ) (c d : Configuration State) (id : CallId) → IsStep Effect history c id d → IsIdle Effect history c id d → IsHopeful n d → IsHopeful n c
-  without_idle whole n c d id s idle h =
-      let r = without_moved whole id idle.opened h.path h.done c.counts (record { process = s.process; number = s.number }) s.counts in
-      let there : ◌≡◌ {A = Configuration State} (record { counts = c.counts; state = d.state }) c = same_configuration refl (sym idle.same) in
-      subst (λ (y : Configuration State). IsHopeful n y) there (subst (λ (k : ℕ). IsHopeful k (record { counts = c.counts; state = d.state })) h.size r)
+  without_idle whole n c d id s idle h = subst (λ (k : ℕ). IsHopeful k c) h.size (idle_moved whole c id h.path h.done s idle)

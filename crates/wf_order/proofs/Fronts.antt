@@ -1,5 +1,5 @@
 -- What was found of all events, in the first ones.
-use Rattle.std.proofs.Common.{◌≡◌, refl, sym, ap, ◌∙◌, subst, ℕ, ◌-◌, ◌<◌, ◌≤◌, List, [], ◌∷◌, ◌++◌, length, map, take, get_or, Some, option_map, true, false, arith, ◌⊎◌, inl, inr}
+use Rattle.std.proofs.Common.{◌≡◌, refl, sym, ap, ◌∙◌, subst, ℕ, ◌+◌, ◌-◌, ◌<◌, ◌≤◌, List, [], ◌∷◌, ◌++◌, length, map, take, get_or, Some, option_map, true, false, arith, ◌⊎◌, inl, inr}
 use Rattle.std.proofs.lemmas.Bool.{cases_lt}
 use Rattle.std.proofs.lemmas.List.{length-take-le}
 use Rattle.std.proofs.lemmas.List.Elements.{Contains-append_left, Contains-push, Contains-push_cases}
@@ -17,15 +17,17 @@ use Rattle.wf_order.specs.declared.search.Frame.{Frame}
 use Rattle.wf_order.specs.declared.seen.Found.{Found}
 use Rattle.wf_order.specs.Fronts.{AreFramed, AreSized, EndsBefore, IsFarthest, IsFresh}
 use Rattle.wf_order.specs.Rows.{AreRows, call_at, ended_rows, row_of}
-use Rattle.wf_order.specs.Rules.{ComesFirst, ends, open_ones, IsAnswered, IsBehind, IsOpen, IsSilent}
+use Rattle.wf_order.specs.Rules.{ComesFirst, ends, open_ones, IsAnswered, IsBehind, IsIdle, IsOpen, IsSilent}
 use Rattle.wf_order.specs.Search.{found_in, IsLed, IsSearch, IsWholeSearch}
 use Rattle.wf_order.specs.Steps.{Configuration, IsTaken, IsLimit, IsStep, Leads, none, more, start_at}
 use Rattle.wf_order.specs.Turns.{BeginsFrom}
 use Rattle.wf_order.specs.Verdict.{HasLegal}
 use Rattle.wf_order.proofs.Beginnings.{legal_before, nothing_legal}
+use Rattle.wf_order.proofs.Exchange.{IsNext, own_number, own_within}
 use Rattle.wf_order.proofs.Keeping.{mapped_some}
 use Rattle.wf_order.proofs.Places.{before_at, places_before}
 use Rattle.wf_order.proofs.Soundness.{step_grows}
+use Rattle.wf_order.proofs.Turns.{take_whole}
 
 module _ {State Call Reply : Type 0} (Effect : Call → State → State → Reply → Type 0) (history : List (Event Call Reply)) (whole : IsHistory history) (count : ℕ) where
   in_front : (event : Event Call Reply) (k : ℕ) → slice_get history k ≡ Some event → k < count → Contains (take count history) event
@@ -150,18 +152,33 @@ Contains-counts found c h =
 
 module _ {M : Type 0} (Effect : ObjectCall → M → M → Reply → Type 0) (history : List (Event ObjectCall Reply)) (processes : ℕ) (rows : Rows) (are : AreRows history processes rows) (count : ℕ) where
   -- the next call of a configuration ends in the front, if it ends
-  ends_early : (c d : Configuration M) (id : CallId) (part : List (Event ObjectCall Reply)) → EndsBefore rows c.counts count → IsStep Effect part c id d →
+  next_early : (c : Configuration M) (id : CallId) → EndsBefore rows c.counts count → id.process < length c.counts → id.number ≡ get_or c.counts id.process 0 + 1 →
       (reply : Reply) (k : ℕ) → slice_get history k ≡ Some (End id reply) → k < count
-  ends_early c d id part before s reply k at =
+  next_early c id before process number reply k at =
       let every = are.every_ended id reply (contains_at history k (End id reply) at) in
-      let number = s.number in
       let positive = every.1 in
       let place : id.number - 1 ≡ get_or c.counts id.process 0 = omega (arith, number) in
-      let lt = before id.process every.2 s.process (ap (slice_get (row_of (ended_rows rows) id.process)) (sym place) ∙ every.3) in
+      let lt = before id.process every.2 process (ap (slice_get (row_of (ended_rows rows) id.process)) (sym place) ∙ every.3) in
       let own = are.ended id.process (id.number - 1) every.2 every.3 in
       let same : call_at id.process (id.number - 1) ≡ id = same_call (call_at id.process (id.number - 1)) id refl (omega (arith, positive)) in
       let once = one_end history are.whole id every.2.place k (seen_reply every.2.reply) reply (subst (λ (i : CallId). slice_get history every.2.place ≡ Some (End i (seen_reply every.2.reply))) same own) at in
       omega (arith, lt, once)
+
+  ends_early : (c d : Configuration M) (id : CallId) (part : List (Event ObjectCall Reply)) → EndsBefore rows c.counts count → IsStep Effect part c id d →
+      (reply : Reply) (k : ℕ) → slice_get history k ≡ Some (End id reply) → k < count
+  ends_early c d id part before s = next_early c id before s.process s.number
+
+  open_front : (id : CallId) → IsOpen history id → IsOpen (take count history) id
+  open_front id opened reply ended = opened reply (of_front Effect history are.whole count (End id reply) ended)
+
+  -- a step behind one by an open call is one of all events
+  step_behind_open : (c d e : Configuration M) (id next : CallId) → EndsBefore rows c.counts count → IsStep Effect (take count history) c id d → IsOpen history id → IsStep Effect (take count history) d next e → IsStep Effect history d next e
+  step_behind_open c d e id next before s opened t =
+      let front = take count history in
+      let in_turn : IsNext Effect front c.counts id = record { process = s.process; number = s.number } in
+      step_whole Effect history are.whole count d e next t
+      (next_early c next before (own_within Effect front (take_whole count history are.whole) id (open_front id opened) c d e next in_turn s.counts t)
+      (own_number Effect front (take_whole count history are.whole) id (open_front id opened) c d e next in_turn s.counts t))
 
   module _ (start : Configuration M) (found : List (Configuration M)) (h : IsSearch Effect history processes (IsLed Effect history true start) start found [])
       (farthest : ℕ) (far : IsFarthest history (map counts_in found) farthest) (less : farthest < count) (within : count ≤ length history) where
@@ -196,8 +213,16 @@ module _ {M : Type 0} (Effect : ObjectCall → M → M → Reply → Type 0) (hi
           first = first_front Effect history are.whole count b.sooner id (ends_early c b.to b.sooner history before b.step) b.first;
         }
 
-    open_front : (id : CallId) → IsOpen history id → IsOpen (take count history) id
-    open_front id opened reply ended = opened reply (of_front Effect history are.whole count (End id reply) ended)
+    idle_front : (c d : Configuration M) (id : CallId) → Contains found c → EndsBefore rows c.counts count → IsStep Effect (take count history) c id d → IsIdle Effect history c id d → IsIdle Effect (take count history) c id d
+    idle_front c d id in_found before s idle = record {
+      opened = open_front id idle.opened;
+      without = λ next e t.
+          let own = step_behind_open c d e id next before s idle.opened t in
+          elim (idle.without next e own) [
+            | inl leaves ↦ inl (open_front next leaves.0, leaves.1)
+            | inr alike ↦ inr (alike.0, to_front c alike.0 next in_found alike.1, alike.2)
+          ];
+    }
 
     answered_front : (c d : Configuration M) (id : CallId) → Contains found c → EndsBefore rows c.counts count → IsStep Effect (take count history) c id d → IsAnswered Effect history found c id d → IsAnswered Effect (take count history) found c id d
     answered_front c d id in_found before s answered =
@@ -213,7 +238,7 @@ module _ {M : Type 0} (Effect : ObjectCall → M → M → Reply → Type 0) (hi
             }))
             | inr others ↦ inr (inr (elim others [
               | inl behind ↦ inl (behind_front c d id in_found before s behind)
-              | inr idle ↦ inr (record { opened = open_front id idle.opened; same = idle.same })
+              | inr idle ↦ inr (idle_front c d id in_found before s idle)
             ]))
           ]
         ]

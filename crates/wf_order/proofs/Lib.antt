@@ -9,6 +9,7 @@ pub mod Ending
 pub mod Exchange
 pub mod Fronts
 pub mod Keeping
+pub mod LeftOut
 mod Legality
 pub mod Limits
 pub mod Lists

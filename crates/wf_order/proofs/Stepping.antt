@@ -2,7 +2,7 @@
 use Rattle.std.proofs.Common.{◌≡◌, refl, sym, ap, ◌∙◌, subst, ℕ, ◌+◌, ◌-◌, ◌<◌, ◌≤◌, List, length, get_or, set, Option, option_map, Some, None, arith}
 use Rattle.std.proofs.lemmas.Option.{same_Some}
 use Rattle.std.specs.List.{slice_get, Contains}
-use Rattle.std.specs.Prelude.{IfSome}
+use Rattle.std.specs.Prelude.{IfSome, MatchOption}
 use Rattle.ob_interface.specs.Call.{ObjectCall, Reply}
 use Rattle.wf_history.specs.declared.event.CallId.{CallId}
 use Rattle.wf_history.specs.History.{Event, Begin, End, Before}
@@ -15,7 +15,7 @@ use Rattle.wf_order.specs.declared.rows.Ended.{Ended}
 use Rattle.wf_order.specs.declared.rows.Rows.{Rows}
 use Rattle.wf_order.specs.Rows.{row_of, begun_rows, ended_rows, call_at, AreRows}
 use Rattle.wf_order.specs.Steps.{Configuration, IsLimit, IsStep, one_more}
-use Rattle.wf_order.specs.Search.{HasNoStep, IsOnlyStep, IsSilentStep, IsOutcome}
+use Rattle.wf_order.specs.Search.{HasNoStep, IsNextStep, IsOnlyStep, IsSilentStep, IsOutcome}
 use Rattle.wf_order.proofs.Limits.{limit_earlier, limit_later}
 use Rattle.wf_order.proofs.Lists.{same_configuration}
 
@@ -50,7 +50,7 @@ module _ {M : Type 0} (Effect : ObjectCall → M → M → Reply → Type 0)
           limit_later history c.counts limit bound are.whole (call_at process k) (seen_call b.call) b.place (are.begun process k b at) le
           (λ a bef. s.earlier a (subst (λ (i : CallId). Before history a i) (sym same) bef))
 
-      own_call_is : (id : CallId) (d : Configuration M) → id.process ≡ process → (s : IsStep Effect history c id d) → s.call ≡ seen_call b.call
+      pub own_call_is : (id : CallId) (d : Configuration M) → id.process ≡ process → (s : IsStep Effect history c id d) → s.call ≡ seen_call b.call
       own_call_is id d own s =
           one_call history are.whole (call_at process k) s.call (seen_call b.call) (subst (λ (i : CallId). HasBegun history i s.call) (next_id id d own s) s.begun) has_begun_here
 
@@ -58,17 +58,17 @@ module _ {M : Type 0} (Effect : ObjectCall → M → M → Reply → Type 0)
       own_effect id d own s = subst (λ (x : ObjectCall). Effect x c.state d.state s.reply) (own_call_is id d own s) s.effect
 
       -- the reply that is known
-      abbrev known_reply : Option Reply
+      abbrev pub known_reply : Option Reply
       known_reply = option_map seen_reply (option_map (λ e. e.reply) (slice_get (row_of (ended_rows rows) process) k))
 
-      known_ended : (o : Option Ended) → slice_get (row_of (ended_rows rows) process) k ≡ o → (r : Reply) → option_map seen_reply (option_map (λ e. e.reply) o) ≡ Some r → Contains history (End (call_at process k) r)
+      pub known_ended : (o : Option Ended) → slice_get (row_of (ended_rows rows) process) k ≡ o → (r : Reply) → option_map seen_reply (option_map (λ e. e.reply) o) ≡ Some r → Contains history (End (call_at process k) r)
       known_ended None e r h = absurd (cc)
       known_ended (Some x) e r h = subst (λ (y : Reply). Contains history (End (call_at process k) y)) (same_Some (seen_reply x.reply) r h) (ended_here x e)
         where
           ended_here : (x : Ended) → slice_get (row_of (ended_rows rows) process) k ≡ Some x → Contains history (End (call_at process k) (seen_reply x.reply))
           ended_here x e = contains_at history x.place (End (call_at process k) (seen_reply x.reply)) (are.ended process k x e)
 
-      ended_known : (r : Reply) → Contains history (End (call_at process k) r) → known_reply ≡ Some r
+      pub ended_known : (r : Reply) → Contains history (End (call_at process k) r) → known_reply ≡ Some r
       ended_known r h =
           let e = are.every_ended (call_at process k) r h in
           let place : (k + 1) - 1 ≡ k = omega arith in
@@ -84,7 +84,7 @@ module _ {M : Type 0} (Effect : ObjectCall → M → M → Reply → Type 0)
           let agrees = s.agrees o.3 (subst (λ (i : CallId). Contains history (End i o.3)) (sym same) ended) in
           o.5 (agrees ∙ sym both.1)
 
-      if_known : (o : Option Reply) (reply r : Reply) → IfSome o (λ r. r ≡ reply) → o ≡ Some r → r ≡ reply
+      pub if_known : (o : Option Reply) (reply r : Reply) → IfSome o (λ r. r ≡ reply) → o ≡ Some r → r ≡ reply
       if_known None reply r h e = absurd (cc)
       if_known (Some x) reply r h e = sym (same_Some x r e) ∙ h
 
@@ -149,8 +149,18 @@ module _ {M : Type 0} (Effect : ObjectCall → M → M → Reply → Type 0) (hi
   pub only_as : IsOnlyStep Effect history c process (call_at process k) (record { counts = set c.counts process (k + 1); state = after }) → IsOnlyStep Effect history c process id d
   only_as h = subst (λ (i : CallId). IsOnlyStep Effect history c process i d) same_id (subst (λ (x : Configuration M). IsOnlyStep Effect history c process (call_at process k) x) same_to h)
 
-  pub silent_as : IsSilentStep Effect history c (call_at process k) (record { counts = set c.counts process (k + 1); state = after }) → IsSilentStep Effect history c id d
-  silent_as h = subst (λ (i : CallId). IsSilentStep Effect history c i d) same_id (subst (λ (x : Configuration M). IsSilentStep Effect history c (call_at process k) x) same_to h)
+module _ {M : Type 0} (Effect : ObjectCall → M → M → Reply → Type 0)
+    (determined : (call : ObjectCall) (before after other : M) (reply answer : Reply) → Effect call before after reply → Effect call before other answer → (after ≡ other) × (reply ≡ answer))
+    (history : List (Event ObjectCall Reply)) (rows : Rows) (c : Configuration M) (are : AreRows history (length c.counts) rows) (limit : ℕ) (bound : IsLimit history c.counts limit)
+    (process k : ℕ) (is : k ≡ get_or c.counts process 0) (b : Begun) (at : slice_get (row_of (begun_rows rows) process) k ≡ Some b) where
+  -- the call that is next, by what it makes of the state
+  pub stepped : {S : Type 0} (meaning : S → M) (o : Option S) → process < length c.counts → b.place < limit →
+      IsOutcome (Effect (seen_call b.call)) c.state (known_reply Effect determined history rows c are limit bound process k is b at) (option_map meaning o) →
+      MatchOption o (HasNoStep Effect history c process) (λ s. IsNextStep Effect history c process (meaning s))
+  stepped meaning None within inside h = none_agrees Effect determined history rows c are limit bound process k is b at h
+  stepped meaning (Some s) within inside h =
+      only_as Effect history c process k (meaning s) (call_at process (get_or c.counts process 0)) (one_more c.counts process (meaning s)) is refl refl
+      (only_step Effect determined history rows c are limit bound process k is b at (meaning s) (set c.counts process (k + 1)) within inside refl h)
 
 pub some_at : {V : Type 0} (R : V → Type 0) (o : Option V) (v : V) → o ≡ Some v → IfSome o R → R v
 some_at R None v e h = absurd (cc)

@@ -1,5 +1,5 @@
 -- Steps that a search need not try.
-use Rattle.std.specs.Prelude.{◌≡◌, ℕ, ◌+◌, ◌<◌, List, length, get_or, slice_get, Some, Contains, ◌⊎◌}
+use Rattle.std.specs.Prelude.{◌≡◌, ℕ, ◌+◌, ◌<◌, List, length, get_or, slice_get, Option, Some, IfSome, Contains, ◌⊎◌}
 use Rattle.wf_history.specs.declared.event.CallId.{CallId}
 use Rattle.wf_history.specs.History.{Event, End, Before}
 use Rattle.wf_history.specs.Legal.{HasBegun}
@@ -75,10 +75,12 @@ module _ {State Call Reply : Type 0} (Effect : Call → State → State → Repl
   abbrev pub AreBehind : Configuration State → ℕ → Type 0
   AreBehind c process = (id : CallId) (d : Configuration State) → id.process ≡ process → IsStep Effect history c id d → IsBehind c id
 
-  -- the call does not end, and leaves the state as it is: what comes behind it comes without it too
+  -- The call does not end. What may come next behind it leads to the same state without it; or it does not end either, and leaves
+  -- the state as it is.
   pub record IsIdle (c : Configuration State) (id : CallId) (d : Configuration State) : Type 0 where
     pub opened : IsOpen history id
-    pub same : c.state ≡ d.state
+    pub without : (next : CallId) (e : Configuration State) → IsStep Effect history d next e →
+        (IsOpen history next × (e.state ≡ d.state)) ⊎ ((f : Configuration State) × IsStep Effect history c next f × (f.state ≡ e.state))
 
   -- no step by a call of the process need be tried
   abbrev pub AreIdle : Configuration State → ℕ → Type 0
@@ -87,3 +89,15 @@ module _ {State Call Reply : Type 0} (Effect : Call → State → State → Repl
   -- the step was tried, or need not be
   abbrev pub IsAnswered : List (Configuration State) → Configuration State → CallId → Configuration State → Type 0
   IsAnswered found c id d = Contains found d ⊎ (IsForced found c ⊎ (IsBehind c id ⊎ IsIdle c id d))
+
+  -- An open call of the one process leads from the configuration to the state. What the other process may do next behind it leads to
+  -- the same state without it, or does not end either, and leaves the state as it is.
+  abbrev pub IsAlike : Configuration State → ℕ → State → ℕ → Type 0
+  IsAlike c by behind process = (id : CallId) (d : Configuration State) → id.process ≡ by → IsOpen history id → IsStep Effect history c id d → d.state ≡ behind →
+      (next : CallId) (e : Configuration State) → next.process ≡ process → IsStep Effect history d next e →
+      (IsOpen history next × (e.state ≡ d.state)) ⊎ ((f : Configuration State) × IsStep Effect history c next f × (f.state ≡ e.state))
+
+-- what a call with this reply, if one is known, makes of the second state, it makes of the first one too
+abbrev pub IsSameOutcome : {State Reply : Type 0} → (State → State → Reply → Type 0) → State → State → Option Reply → Type 0
+IsSameOutcome {State} {Reply} Effect before behind known =
+    (after : State) (reply : Reply) → Effect behind after reply → IfSome known (λ r. r ≡ reply) → (other : Reply) × Effect before after other × IfSome known (λ r. r ≡ other)

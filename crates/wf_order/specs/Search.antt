@@ -8,19 +8,21 @@ use Rattle.wf_history.specs.Legal.{IsLegal}
 use Rattle.wf_history.specs.View.{seen_call, seen_reply}
 use Rattle.ob_interface.specs.View.{reply_of}
 use Rattle.std.specs.HashSet.{HashSet}
-use Rattle.wf_order.specs.declared.attempt.Told.{Told}
 use Rattle.wf_order.specs.declared.search.Answer.{Answer}
 use Rattle.wf_order.specs.declared.search.Answer.TheVariants as Answers
 use Rattle.wf_order.specs.declared.search.Frame.{Frame}
 use Rattle.wf_order.specs.declared.step.Here.{Here}
 use Rattle.wf_order.specs.declared.step.Made.{Made}
+use Rattle.wf_order.specs.declared.step.Silent.{Silent}
+use Rattle.wf_order.specs.declared.step.Silent.TheVariants as Silents
+use Rattle.wf_order.specs.declared.step.Told.{Told}
 use Rattle.wf_order.specs.declared.rows.Begun.{Begun}
 use Rattle.wf_order.specs.declared.rows.Ended.{Ended}
 use Rattle.wf_order.specs.declared.rows.Rows.{Rows}
 use Rattle.wf_order.specs.declared.seen.Found as Rust
-use Rattle.wf_order.specs.Rows.{AreAt, AreRows, begun_rows, row_of}
+use Rattle.wf_order.specs.Rows.{AreAt, AreRows, begun_rows, call_at, row_of}
 use Rattle.wf_order.specs.Rules.{IsAnswered, IsSilent}
-use Rattle.wf_order.specs.Steps.{Configuration, IsLimit, IsStep, Leads, IsDone, start_at}
+use Rattle.wf_order.specs.Steps.{Configuration, IsLimit, IsStep, Leads, IsDone, one_more, start_at}
 use Rattle.wf_order.specs.Turns.{BeginsFrom, turns}
 use Rattle.wf_order.specs.Verdict.{HasLegal, HasMore}
 
@@ -67,6 +69,16 @@ IsMade meaning Effect before made = Effect (seen_call made.call) before (meaning
 abbrev pub IsTold : {M : Type 0} → (ObjectCall → M → M → Reply → Type 0) → M → Told → Type 0
 IsTold {M} Effect before told = (after : M) × Effect (seen_call told.call) before after (reply_of told.reply)
 
+-- what one call replies on the state is told, where no silent one may be taken
+abbrev pub IsNever : {M S : Type 0} → (ObjectCall → M → M → Reply → Type 0) → M → Silent S → Type 0
+IsNever Effect before (Silents.Step process state) = Unit {0}
+IsNever Effect before (Silents.Never told) = IfSome told (IsTold Effect before)
+
+-- a silent call that may be taken is of one of so many processes
+abbrev pub IsOfFirst : {S : Type 0} → ℕ → Silent S → Type 0
+IsOfFirst processes (Silents.Step process state) = process < processes
+IsOfFirst processes (Silents.Never told) = Unit {0}
+
 -- the next call of the process, with its end, may be taken, and leaves each state as it is
 pub record IsSilentCall {M : Type 0} (Effect : ObjectCall → M → M → Reply → Type 0) (rows : Rows) (counts : List ℕ) (limit process : ℕ) (begun : Begun) (ended : Ended) : Type 0 where
   pub within : process < length counts
@@ -89,6 +101,19 @@ module _ {State Call Reply : Type 0} (Effect : Call → State → State → Repl
     pub step : IsStep Effect history c id d
     pub only : (other : CallId) (e : Configuration State) → other.process ≡ process → IsStep Effect history c other e → e ≡ d
 
+  -- the next call of the process leads to this state, and no other step of the process leads elsewhere
+  abbrev pub IsNextStep : Configuration State → ℕ → State → Type 0
+  IsNextStep c process after = IsOnlyStep c process (call_at process (get_or c.counts process 0)) (one_more c.counts process after)
+
+  -- the next call of the process is silent, and leads to this state
+  abbrev pub IsSilentNext : Configuration State → ℕ → State → Type 0
+  IsSilentNext c process after = IsSilentStep c (call_at process (get_or c.counts process 0)) (one_more c.counts process after)
+
+  -- a silent call is next, and leads where it is told
+  abbrev pub IsSilentFound : {S : Type 0} → (S → State) → Configuration State → Silent S → Type 0
+  IsSilentFound meaning c (Silents.Step process state) = IsSilentNext c process (meaning state)
+  IsSilentFound meaning c (Silents.Never told) = Unit {0}
+
   -- each step by a call of the process was tried, or need not be
   abbrev pub AreAnswered : List (Configuration State) → Configuration State → ℕ → Type 0
   AreAnswered found c process = (id : CallId) (d : Configuration State) → id.process ≡ process → IsStep Effect history c id d → IsAnswered Effect history found c id d
@@ -109,6 +134,14 @@ module _ {State Call Reply : Type 0} (Effect : Call → State → State → Repl
     pub fewer : turns next (begun_rows rows) c.counts + 1 ≤ turns from (begun_rows rows) c.counts
     pub covers : (other : CallId) (e : Configuration State) (call : Call) (begun : ℕ) → slice_get history begun ≡ Some (Begin other call) → from ≤ begun → begun < next → IsStep Effect history c other e →
         IsAnswered Effect history found c other e ⊎ (e ≡ d)
+
+  -- the step by the next call of the process, to this state, is the next to be tried
+  abbrev pub IsTry : Rows → List (Configuration State) → Configuration State → (from next process : ℕ) → State → Type 0
+  IsTry rows found c from next process after = IsAttempt rows found c from next (call_at process (get_or c.counts process 0)) (one_more c.counts process after)
+
+  -- That step is tried; or it is a silent one, in place of all others, so that nothing is left to be tried before the limit.
+  abbrev pub IsChoice : Rows → List (Configuration State) → Configuration State → (from limit next process : ℕ) → State → Type 0
+  IsChoice rows found c from limit next process after = IsTry rows found c from next process after ⊎ (IsSilentNext c process after × (from ≡ 0) × (next ≡ limit))
 
   -- the calls lead from the start to the configuration, or, where that is not asked, some calls do
   abbrev pub IsLed : Bool → Configuration State → List CallId → Configuration State → Type 0

@@ -1,34 +1,27 @@
 //! What is tried next from a configuration.
 
-ghost use Rattle.std.specs.Prelude.{◌≡◌, ℕ, List, IfOk, IfSome, IsTrue, MatchOption};
+ghost use Rattle.std.specs.Prelude.{◌≡◌, ◌<◌, ℕ, List, length, IfOk, IfSome, IsTrue, MatchOption};
 ghost use Rattle.ob_interface.specs.Call.{ObjectCall, Reply};
 ghost use Rattle.wf_history.specs.History.{Event};
 ghost use Rattle.wf_order.specs.Rules.{AreIdle};
-ghost use Rattle.wf_order.specs.Search.{found_in, AreAllAnswered, AreAnswered, HasNoStep, IsAt, IsAttempt, IsOnlyStep, IsTold, IsWorded};
+ghost use Rattle.wf_order.specs.Search.{found_in, AreAllAnswered, AreAnswered, HasNoStep, IsAt, IsChoice, IsNextStep, IsTold, IsTry};
 ghost use Rattle.wf_order.specs.Steps.{Configuration};
 
 use crate::behind::is_behind;
 use crate::object::Object;
 use crate::replies::{is_same_call, is_same_reply};
-use crate::seen::Found;
-use crate::step::{Here, Task, silent_call, step};
+use crate::seen::Seen;
+use crate::step::{Here, Silent, Task, Told, any_silent_step, silent_call, step};
 use crate::turn::next_turn;
-use ob_interface::{NoMemory, call};
-use wf_history::{CallId, SeenCall};
+use crate::without::unless_left_out;
+use ob_interface::NoMemory;
 
-/// A call, what it leads to, and the place behind its begin.
+/// A process whose next call is tried, the state that it leads to, and the place behind its begin.
 #[derive(Drop)]
 pub(crate) struct Attempt<S> {
     pub next: usize,
-    pub id: CallId,
-    pub to: Found<S>,
-}
-
-/// A call, and what it replies.
-#[derive(Drop)]
-pub(crate) struct Told<'a> {
-    pub call: SeenCall<'a>,
-    pub reply: call::Reply,
+    pub process: usize,
+    pub state: S,
 }
 
 /// What the next call of a process replies here, where it is silent; else what is known already.
@@ -105,18 +98,19 @@ fn is_idle<O: Object>(task: &Task<O>, here: &Here<O::State>, process: usize) -> 
     task.object.is_reader(begun.call)
 }
 
-/// What the next call of a process leads to, where it is to be tried.
+/// The state that the next call of a process leads to, where it is to be tried. In a hard search, of which this was found, it looks closer
+/// at open calls.
 fn tried<O: Object>(
     task: &Task<O>,
     here: &Here<O::State>,
     process: usize,
     told: &Option<Told>,
-) -> Result<Option<(CallId, Found<O::State>)>, NoMemory>
-    ensures tried { (history : List (Event ObjectCall Reply)) (found : List (Configuration O.Meaning)) → IsAt history task.now.rows.now here.now
+    hard: Option<&Seen<O::State>>,
+) -> Result<Option<O::State>, NoMemory>
+    ensures { (history : List (Event ObjectCall Reply)) (found : List (Configuration O.Meaning)) → IsAt history task.now.rows.now here.now
         → IfSome told.now (IsTold (O.effect task.now.object.now) (O.meaning here.now.found.now.state))
         → IfOk result (λ o. MatchOption o (AreAnswered (O.effect task.now.object.now) history found (found_in O.meaning here.now.found.now) process)
-        (λ to. IsOnlyStep (O.effect task.now.object.now) history (found_in O.meaning here.now.found.now) process to.0 (found_in O.meaning to.1))) }
-    ensures words { IfOk result (λ o. IfSome o (λ to. IsWorded O.meaning O.words_of to.1)) }
+        (λ state. IsNextStep (O.effect task.now.object.now) history (found_in O.meaning here.now.found.now) process (O.meaning state))) }
 {
     if is_unfit(task, here, process, told) {
         return Ok(None);
@@ -127,34 +121,76 @@ fn tried<O: Object>(
     if is_behind(task, here, process)? {
         return Ok(None);
     }
-    step(task, here, process)
+    let Some(state) = step(task, here, process)? else {
+        return Ok(None);
+    };
+    match hard {
+        None => Ok(Some(state)),
+        Some(seen) => unless_left_out(task, here, seen, process, state),
+    }
 }
 
-/// What is tried next, of the calls that begin at a place or behind it.
-pub(crate) fn next_attempt<O: Object>(
-    task: &Task<O>,
+/// What is tried next, of the calls that begin at a place or behind it, where it is known what one call replies here.
+fn next_attempt<'a, O: Object>(
+    task: &Task<'_, 'a, O>,
     here: &Here<O::State>,
     from: usize,
+    hard: Option<&Seen<O::State>>,
+    known: Option<Told<'a>>,
 ) -> Result<Option<Attempt<O::State>>, NoMemory>
+    requires { IfSome known (IsTold (O.effect task.now.object.now) (O.meaning here.now.found.now.state)) }
     ensures next { (history : List (Event ObjectCall Reply)) (found : List (Configuration O.Meaning)) → IsAt history task.now.rows.now here.now
         → IfOk result (λ o. MatchOption o (AreAllAnswered (O.effect task.now.object.now) history found (found_in O.meaning here.now.found.now) from)
-        (λ a. IsAttempt (O.effect task.now.object.now) history task.now.rows.now found (found_in O.meaning here.now.found.now) from a.next a.id (found_in O.meaning a.to))) }
-    ensures words { IfOk result (λ o. IfSome o (λ a. IsWorded O.meaning O.words_of a.to)) }
+        (λ a. IsTry (O.effect task.now.object.now) history task.now.rows.now found (found_in O.meaning here.now.found.now) from a.next a.process (O.meaning a.state))) }
+    ensures within { IfOk result (λ o. IfSome o (λ a. a.process < length here.now.found.now.counts.items)) }
 {
     let limit = here.limit;
-    let mut told = None;
+    let mut told = known;
     let mut start = from;
     while start < limit {
         let turn = next_turn(task.rows, &here.found.counts, start, limit);
         if turn.place >= limit {
             return Ok(None);
         }
-        told = told_at(task, here, turn.process, told)?;
+        let process = turn.process;
+        told = told_at(task, here, process, told)?;
         let next = turn.place + 1;
-        match tried(task, here, turn.process, &told)? {
-            Some((id, to)) => return Ok(Some(Attempt { next, id, to })),
+        match tried(task, here, process, &told, hard)? {
+            Some(state) => {
+                return Ok(Some(Attempt {
+                    next,
+                    process,
+                    state,
+                }));
+            }
             None => start = next,
         }
     }
     Ok(None)
+}
+
+/// What is tried next from a configuration: at first a silent call, where one may be taken, and then nothing else; and else a call that
+/// begins at a place or behind it.
+pub(crate) fn chosen<O: Object>(
+    task: &Task<O>,
+    here: &Here<O::State>,
+    from: usize,
+    hard: Option<&Seen<O::State>>,
+) -> Result<Option<Attempt<O::State>>, NoMemory>
+    ensures chosen { (history : List (Event ObjectCall Reply)) (found : List (Configuration O.Meaning)) → IsAt history task.now.rows.now here.now
+        → IfOk result (λ o. MatchOption o (AreAllAnswered (O.effect task.now.object.now) history found (found_in O.meaning here.now.found.now) from)
+        (λ a. IsChoice (O.effect task.now.object.now) history task.now.rows.now found (found_in O.meaning here.now.found.now) from here.now.limit a.next a.process (O.meaning a.state))) }
+    ensures within { IfOk result (λ o. IfSome o (λ a. a.process < length here.now.found.now.counts.items)) }
+{
+    if from > 0 {
+        return next_attempt(task, here, from, hard, None);
+    }
+    match any_silent_step(task, here)? {
+        Silent::Step(process, state) => Ok(Some(Attempt {
+            next: here.limit,
+            process,
+            state,
+        })),
+        Silent::Never(told) => next_attempt(task, here, from, hard, told),
+    }
 }

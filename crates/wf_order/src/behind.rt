@@ -39,7 +39,7 @@ fn is_behind_next<O: Object>(
     if !are_alike(task.rows, first, own) {
         return Ok(false);
     }
-    let Some(_to) = step(task, here, other)? else {
+    let Some(_state) = step(task, here, other)? else {
         return Ok(false);
     };
     Ok(true)

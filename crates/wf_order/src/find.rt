@@ -12,6 +12,7 @@ ghost use Rattle.wf_order.specs.Verdict.{HasLegal, IsBetween, IsHalved, IsLastFo
 
 use crate::front::{Front, farthest_of, frames_behind, go_on};
 use crate::object::Object;
+use crate::quiet::Quiet;
 use crate::rows::{Rows, processes_of, rows_of};
 use crate::search::{Answer, search};
 use crate::seen::{Keys, Seen};
@@ -33,12 +34,13 @@ pub enum Verdict {
     TooMany,
 }
 
-/// A history of so many processes on an object, with its rows, and the most configurations to be looked at.
+/// A history of so many processes on an object, with its rows and its silent calls, and the most configurations to be looked at.
 #[derive_where(Clone, Copy)]
 struct Question<'r, 'a, O> {
     alloc: Global,
     events: &'a [Event],
     rows: &'r Rows<'a>,
+    quiet: &'r Quiet,
     object: &'a O,
     processes: usize,
     most: usize,
@@ -62,6 +64,7 @@ fn front_answer<O: Object>(question: &Question<O>, count: usize) -> Result<Answe
         events,
         object: question.object,
         rows: &rows,
+        quiet: question.quiet,
     };
     let mut seen = Seen::with_hasher(alloc, Keys::new(question.keys));
     search(&task, &mut seen, processes, question.most)
@@ -94,6 +97,7 @@ fn front_by_found<O: Object>(
         events,
         object: question.object,
         rows: &rows,
+        quiet: question.quiet,
     };
     let size = seen.len();
     let stack = frames_behind(alloc, question.rows, seen, count)?;
@@ -224,6 +228,7 @@ fn verdict_of<O: Object>(question: &Question<O>) -> Result<Verdict, NoMemory>
         events: question.events,
         object: question.object,
         rows: question.rows,
+        quiet: question.quiet,
     };
     let mut seen = Seen::with_hasher(question.alloc, Keys::new(question.keys));
     match search(&task, &mut seen, question.processes, question.most)? {
@@ -256,10 +261,12 @@ pub fn find_order<O: Object>(
         return Err(NoMemory);
     };
     let rows = rows_of(alloc, events, processes)?;
+    let quiet = Quiet::of(alloc, object, &rows)?;
     let question = Question {
         alloc,
         events,
         rows: &rows,
+        quiet: &quiet,
         object,
         processes,
         most,

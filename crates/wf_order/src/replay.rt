@@ -81,7 +81,7 @@ pub(crate) fn onward<O: Object>(
 }
 
 /// Whether two states are known to be the same.
-fn are_same<O: Object>(
+pub(crate) fn are_same<O: Object>(
     alloc: Global,
     object: &O,
     state: &O::State,

@@ -11,11 +11,11 @@ ghost use Rattle.wf_order.specs.Rows.{AreRows};
 ghost use Rattle.wf_order.specs.Search.{found_in, all_found, ids_of, AreWorded, IsWorded, IsArrival, IsGrown, IsSearch, IsAnswer, IsWholeSearch, IsLed, work};
 ghost use Rattle.wf_order.specs.Steps.{Configuration, IsDone, start_at};
 
-use crate::attempt::{Attempt, next_attempt};
+use crate::attempt::{Attempt, chosen};
 use crate::object::Object;
 use crate::rows::limit_of;
 use crate::seen::{Found, Seen};
-use crate::step::{Here, Task, any_silent_step};
+use crate::step::{Here, Task, one_more};
 use ob_interface::NoMemory;
 use smallvec::SmallVec;
 use std::alloc::Global;
@@ -84,6 +84,15 @@ fn arrive<O: Object>(
     Ok(None)
 }
 
+/// What was found by a search, where it is hard: where it has come back to a configuration, or has found more than two for each call on
+/// its way.
+fn if_hard<S>(seen: &Seen<S>, way: usize, next: usize) -> Option<&Seen<S>> {
+    if next > 0 || seen.len() / 2 > way {
+        return Some(seen);
+    }
+    None
+}
+
 /// Tries a silent call or else the next call of the frame that was on top of the stack: a legal order, if one is found.
 pub(crate) fn advance<O: Object>(
     task: &Task<O>,
@@ -109,30 +118,23 @@ pub(crate) fn advance<O: Object>(
         found: &seen[place],
         limit,
     };
-    if frame.next == 0 {
-        // A silent call is taken at once, and nothing else is tried here.
-        if let Some((id, there)) = any_silent_step(task, &here)? {
-            let next = limit;
-            stack.push(Frame {
-                place,
-                next,
-                id,
-                limit,
-            })?;
-            return arrive(task, seen, stack, there);
-        }
-    }
-    let Some(attempt) = next_attempt(task, &here, frame.next)? else {
+    let hard = if_hard(seen, stack.len(), frame.next);
+    let Some(attempt) = chosen(task, &here, frame.next, hard)? else {
         return Ok(None);
     };
-    let Attempt { next, id, to } = attempt;
+    let Attempt {
+        next,
+        process,
+        state,
+    } = attempt;
+    let (id, there) = one_more(task, &here.found.counts, process, state)?;
     stack.push(Frame {
         place,
         next,
         id,
         limit,
     })?;
-    arrive(task, seen, stack, to)
+    arrive(task, seen, stack, there)
 }
 
 /// The configuration in which no call of so many processes is taken.

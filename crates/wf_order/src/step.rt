@@ -5,11 +5,12 @@ ghost use Rattle.smallvec.specs.SmallVec.{small_vec_len};
 ghost use Rattle.ob_interface.specs.Call.{ObjectCall, Reply};
 ghost use Rattle.wf_history.specs.History.{Event as AnyEvent};
 ghost use Rattle.wf_history.specs.View.{seen_call, seen_reply};
-ghost use Rattle.wf_order.specs.Search.{found_in, HasNoStep, IsOnlyStep, IsSilentStep, IsMade, IsOutcome, IsAt, IsSilentCall, IsWorded};
+ghost use Rattle.wf_order.specs.Search.{found_in, HasNoStep, IsNever, IsNextStep, IsOfFirst, IsSilentFound, IsMade, IsOutcome, IsAt, IsSilentCall, IsWorded};
 ghost use Rattle.wf_order.specs.Rows.{call_at};
 ghost use Rattle.wf_order.specs.Steps.{one_more};
 
 use crate::object::Object;
+use crate::quiet::Quiet;
 use crate::replies::{is_same_call, is_same_reply};
 use crate::rows::{Begun, Ended, Rows};
 use crate::seen::{Counts, Found};
@@ -18,13 +19,14 @@ use smallvec::SmallVec;
 use std::alloc::{AllocError, Global};
 use wf_history::{CallId, Event, SeenCall, SeenReply};
 
-/// What is searched: events, with their rows, on an object.
+/// What is searched: events, with their rows, on an object, and which calls it tells to be silent.
 #[derive_where(Clone, Copy)]
 pub(crate) struct Task<'r, 'a, O> {
     pub alloc: Global,
     pub events: &'a [Event],
     pub object: &'a O,
     pub rows: &'r Rows<'a>,
+    pub quiet: &'r Quiet,
 }
 
 /// A configuration, with the first place at which a call ends that is not taken there.
@@ -42,8 +44,24 @@ pub(crate) struct Made<'a, S> {
     pub reply: call::Reply,
 }
 
+/// A call, and what it replies.
+#[derive(Drop)]
+pub(crate) struct Told<'a> {
+    pub call: SeenCall<'a>,
+    pub reply: call::Reply,
+}
+
+/// What it comes to that a silent call is looked for.
+#[derive(Drop)]
+pub(crate) enum Silent<'a, S> {
+    /// The next call of this process is one, and leads to this state.
+    Step(usize, S),
+    /// None may be taken. What one call replies, if one was made.
+    Never(Option<Told<'a>>),
+}
+
 /// What a call makes of a state, where its reply is the one that is known, if one is.
-fn outcome<O: Object>(
+pub(crate) fn outcome<O: Object>(
     alloc: Global,
     object: &O,
     state: &O::State,
@@ -83,7 +101,7 @@ fn counts_with(
 }
 
 /// Where the next call of a process leads to that makes this state, and which call it is.
-fn one_more<O: Object>(
+pub(crate) fn one_more<O: Object>(
     task: &Task<O>,
     counts: &Counts,
     process: usize,
@@ -112,18 +130,16 @@ fn one_more<O: Object>(
     Ok((id, found))
 }
 
-/// What the next call of a process leads to, where it may be taken and has the history's reply.
+/// The state that the next call of a process leads to, where it may be taken and has the history's reply.
 pub(crate) fn step<O: Object>(
     task: &Task<O>,
     here: &Here<O::State>,
     process: usize,
-) -> Result<Option<(CallId, Found<O::State>)>, NoMemory>
-    ensures only { (history : List (AnyEvent ObjectCall Reply)) → IsAt history task.now.rows.now here.now
+) -> Result<Option<O::State>, NoMemory>
+    ensures { (history : List (AnyEvent ObjectCall Reply)) → IsAt history task.now.rows.now here.now
         → IfOk result (λ stepped. MatchOption stepped (HasNoStep (O.effect task.now.object.now) history (found_in O.meaning here.now.found.now) process)
-        (λ to. IsOnlyStep (O.effect task.now.object.now) history (found_in O.meaning here.now.found.now) process to.0 (found_in O.meaning to.1))) }
-    ensures words { IfOk result (λ stepped. IfSome stepped (λ to. IsWorded O.meaning O.words_of to.1)) }
+        (λ state. IsNextStep (O.effect task.now.object.now) history (found_in O.meaning here.now.found.now) process (O.meaning state))) }
 {
-    let alloc = task.alloc;
     let Some(taken) = here.found.counts.get(process) else {
         return Ok(None);
     };
@@ -135,11 +151,13 @@ pub(crate) fn step<O: Object>(
         return Ok(None);
     }
     let known = task.rows.reply_at(process, place);
-    let Some(state) = outcome(alloc, task.object, &here.found.state, begun.call, known)? else {
-        return Ok(None);
-    };
-    let to = one_more(task, &here.found.counts, process, state)?;
-    Ok(Some(to))
+    outcome(
+        task.alloc,
+        task.object,
+        &here.found.state,
+        begun.call,
+        known,
+    )
 }
 
 /// What a call makes of a state: what an equal one made of it, where one was made, so that none is made twice.
@@ -171,6 +189,9 @@ pub(crate) fn silent_call<'a, O: Object>(
 {
     let limit = here.limit;
     let place = *here.found.counts.get(process)? as usize;
+    if !task.quiet.has(process, place) {
+        return None;
+    }
     let end = task.rows.ended_at(process, place)?;
     let begun = task.rows.begun_at(process, place)?;
     if begun.place >= limit {
@@ -182,25 +203,39 @@ pub(crate) fn silent_call<'a, O: Object>(
     Some((begun, end))
 }
 
-/// What a silent call leads to, where one may be taken.
-pub(crate) fn any_silent_step<O: Object>(
-    task: &Task<O>,
+/// What a call replied that was made.
+fn told_of<'a, S: Drop>(made: Made<'a, S>) -> Told<'a>
+    ensures call { result.call ≡ made.entry.call }
+    ensures reply { result.reply ≡ made.entry.reply }
+{
+    Told {
+        call: made.call,
+        reply: made.reply,
+    }
+}
+
+/// Looks for a silent call that may be taken.
+pub(crate) fn any_silent_step<'a, O: Object>(
+    task: &Task<'_, 'a, O>,
     here: &Here<O::State>,
-) -> Result<Option<(CallId, Found<O::State>)>, NoMemory>
+) -> Result<Silent<'a, O::State>, NoMemory>
     ensures silent { (history : List (AnyEvent ObjectCall Reply)) → IsAt history task.now.rows.now here.now
-        → IfOk result (λ stepped. IfSome stepped (λ to. IsSilentStep (O.effect task.now.object.now) history (found_in O.meaning here.now.found.now) to.0 (found_in O.meaning to.1))) }
-    ensures words { IfOk result (λ stepped. IfSome stepped (λ to. IsWorded O.meaning O.words_of to.1)) }
+        → IfOk result (IsSilentFound (O.effect task.now.object.now) history O.meaning (found_in O.meaning here.now.found.now)) }
+    ensures within { IfOk result (IsOfFirst (length here.now.found.now.counts.items)) }
+    ensures told { IfOk result (IsNever (O.effect task.now.object.now) (O.meaning here.now.found.now.state)) }
 {
     let mut made = None;
     for process in 0..here.found.counts.len() {
         if let Some((begun, end)) = silent_call(task, here, process) {
             let now = made_by(task, &here.found.state, begun.call, made.take())?;
             if is_same_reply(&now.reply, end.reply) {
-                let to = one_more(task, &here.found.counts, process, now.state)?;
-                return Ok(Some(to));
+                return Ok(Silent::Step(process, now.state));
             }
             made = Some(now);
         }
     }
-    Ok(None)
+    let Some(last) = made else {
+        return Ok(Silent::Never(None));
+    };
+    Ok(Silent::Never(Some(told_of(last))))
 }

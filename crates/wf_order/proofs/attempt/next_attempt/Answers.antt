@@ -1,14 +1,16 @@
 -- By the turns, one after the other.
-use Rattle.std.proofs.Common.{subst, ℕ, ◌<◌, List, arith}
+use Rattle.std.proofs.Common.{subst, ℕ, ◌<◌, List, get_or, arith}
 use Rattle.std.proofs.lemmas.Option.{MatchOption-at_none, MatchOption-at_some}
-use Rattle.wf_order.specs.Search.{found_in, AreAnswered, IsOnlyStep}
+use Rattle.wf_order.specs.Rows.{call_at}
+use Rattle.wf_order.specs.Search.{found_in, AreAnswered, IsNextStep}
+use Rattle.wf_order.specs.Steps.{one_more}
 use Rattle.wf_order.specs.Turns.{IsFirstTurn}
 use Rattle.wf_order.proofs.Attempts.{all_covered, all_tried, attempt, covered_more, covered_none, turns_left}
 use Rattle.wf_order.proofs.attempt.next_attempt.Goals as goal
 
 pub loop-start-init : goal.loop-start-init
 loop-start-init g c = (
-  tt,
+  c.requires,
   λ history found at. (
     covered_none (g.O.Object.effect c.args.task.now.object.now) history c.args.task.now.rows.now found (found_in g.O.Object.meaning c.args.here.now.found.now) at.0 c.args.here.now.limit at.1 c.args.from,
     omega arith,
@@ -37,8 +39,16 @@ returns-in-Some-clause-next g c = λ history found at.
     let first = subst (λ (l : List ℕ). IsFirstTurn c.args.task.now.rows.now l c.loop-start.start limit turn) c.deref.ensures c.next_turn-turn.ensures in
     let early : turn.place < limit = let f = c.if-turn-limit.false in omega (arith, f) in
     let covered = c.loop-start.invariant.1 history found at in
-    let only = MatchOption-at_some (AreAnswered effect history found here turn.process) (λ to. IsOnlyStep effect history here turn.process to.0 (view to.1)) (c.in-Some.id, c.in-Some.to) c.in-Some.is (c.in_ok-id.ensures.tried history found at c.in_ok-told.ensures) in
-    attempt effect history c.args.task.now.rows.now found here at.0 limit at.1 c.args.from c.loop-start.start covered.0 turn first early covered.1 c.in-Some.id (view c.in-Some.to) only
+    let after = g.O.Object.meaning c.in-Some.state in
+    let only = MatchOption-at_some (AreAnswered effect history found here turn.process) (λ s. IsNextStep effect history here turn.process (g.O.Object.meaning s)) c.in-Some.state c.in-Some.is (c.in_ok-state.ensures history found at c.in_ok-told.ensures) in
+    attempt effect history c.args.task.now.rows.now found here at.0 limit at.1 c.args.from c.loop-start.start covered.0 turn first early covered.1 (call_at turn.process (get_or here.counts turn.process 0)) (one_more here.counts turn.process after) only
+
+pub returns-in-Some-clause-within : goal.returns-in-Some-clause-within
+returns-in-Some-clause-within g c =
+    let turn = c.next_turn-turn.result in
+    let first = subst (λ (l : List ℕ). IsFirstTurn c.args.task.now.rows.now l c.loop-start.start c.args.here.now.limit turn) c.deref.ensures c.next_turn-turn.ensures in
+    let own = first.own (let f = c.if-turn-limit.false in omega (arith, f)) in
+    own.1
 
 pub loop-start-preserved : goal.loop-start-preserved
 loop-start-preserved g c = (
@@ -52,7 +62,7 @@ loop-start-preserved g c = (
       let first = subst (λ (l : List ℕ). IsFirstTurn c.args.task.now.rows.now l c.loop-start.start limit turn) c.deref.ensures c.next_turn-turn.ensures in
       let early : turn.place < limit = let f = c.if-turn-limit.false in omega (arith, f) in
       let covered = c.loop-start.invariant.1 history found at in
-      let answered = MatchOption-at_none (AreAnswered effect history found here turn.process) (λ to. IsOnlyStep effect history here turn.process to.0 (view to.1)) c.in-None.is (c.in_ok-id.ensures.tried history found at c.in_ok-told.ensures) in
+      let answered = MatchOption-at_none (AreAnswered effect history found here turn.process) (λ s. IsNextStep effect history here turn.process (g.O.Object.meaning s)) c.in-None.is (c.in_ok-state.ensures history found at c.in_ok-told.ensures) in
       let left = turns_left effect history c.args.task.now.rows.now found here at.0 limit at.1 c.args.from c.loop-start.start covered.0 turn first early covered.1 in (
         covered_more effect history c.args.task.now.rows.now found here at.0 limit at.1 c.args.from c.loop-start.start covered.0 turn first early answered,
         omega (arith, left),

@@ -6,7 +6,8 @@ use Rattle.std.proofs.lemmas.List.{get_or_read}
 use Rattle.std.proofs.lemmas.Option.{MatchOption-at_some}
 use Rattle.wf_order.specs.Rows.{call_at}
 use Rattle.wf_order.specs.Rules.{AreAlike}
-use Rattle.wf_order.specs.Search.{found_in, HasNoStep, IsOnlyStep}
+use Rattle.wf_order.specs.Search.{found_in, HasNoStep, IsNextStep}
+use Rattle.wf_order.specs.Steps.{one_more}
 use Rattle.wf_order.proofs.Replacing.{alike_behind}
 use Rattle.wf_order.proofs.behind.is_behind_next.Goals as goal
 
@@ -24,5 +25,6 @@ returns g c = λ history at.
     let others = taken_is c.deref-2.result.now found.counts.items other c.in-Some-get.other_place.now c.in-Some-get.ensures.lookup.0 c.in-Some-get.ensures.lookup.1 c.deref-2.ensures in
     let alike = subst (λ (k : ℕ). AreAlike history (call_at other k) (call_at process (get_or here.counts process 0))) others
     (subst (λ (k : ℕ). AreAlike history (call_at other c.in-Some-get.other_place.now) (call_at process k)) own (c.are_alike.ensures history (length here.counts) at.0 c.if-not-are_alike.false)) in
-    let only = MatchOption-at_some (HasNoStep effect history here other) (λ to. IsOnlyStep effect history here other to.0 (found_in g.O.Object.meaning to.1)) c.in-Some-2._to c.in-Some-2.is (c.in_ok-_to.ensures.only history at) in
-    λ t. alike_behind effect history at.0.whole here process other alike c.in-Some-2._to.0 (found_in g.O.Object.meaning c.in-Some-2._to.1) only
+    let after = g.O.Object.meaning c.in-Some-2._state in
+    let only = MatchOption-at_some (HasNoStep effect history here other) (λ s. IsNextStep effect history here other (g.O.Object.meaning s)) c.in-Some-2._state c.in-Some-2.is (c.in_ok-_state.ensures history at) in
+    λ t. alike_behind effect history at.0.whole here process other alike (call_at other (get_or here.counts other 0)) (one_more here.counts other after) only

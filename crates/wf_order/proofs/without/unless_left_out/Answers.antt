@@ -1,0 +1,36 @@
+-- What may come behind it comes alike; or the state is the same.
+use Rattle.std.proofs.Common.{◌≡◌, ap, sym, subst, ◌∙◌, ℕ, ◌<◌, true, List, length, get_or}
+use Rattle.std.specs.Prelude.{nat_lt}
+use Rattle.std.proofs.lemmas.Bool.{ltb-true}
+use Rattle.std.proofs.lemmas.List.{get_or_read}
+use Rattle.wf_order.specs.Search.{found_in, IsNextStep}
+use Rattle.wf_order.specs.Steps.{Configuration}
+use Rattle.wf_order.proofs.LeftOut.{left_out}
+use Rattle.wf_order.proofs.without.unless_left_out.Goals as goal
+
+taken_is : (xs ys : List ℕ) (p x : ℕ) → true ≡ nat_lt p (length xs) → x ≡ get_or xs p x → xs ≡ ys → x ≡ get_or ys p 0
+taken_is xs ys p x t h e = get_or_read xs p x (ltb-true p (length xs) (sym t)) h 0 ∙ ap (λ (l : List ℕ). get_or l p 0) e
+
+within_is : (xs ys : List ℕ) (p : ℕ) → true ≡ nat_lt p (length xs) → xs ≡ ys → p < length ys
+within_is xs ys p t e = subst (λ (l : List ℕ). p < length l) e (ltb-true p (length xs) (sym t))
+
+pub one_more-requires : goal.one_more-requires
+one_more-requires g c = within_is c.deref.result.now c.args.here.now.found.now.counts.items c.args.process c.in-Some.ensures.lookup.0 c.deref.ensures
+
+pub returns-then-branch : goal.returns-then-branch
+returns-then-branch g c = λ history at.
+    let process = c.args.process in
+    let found = c.args.here.now.found.now in
+    let here = found_in g.O.Object.meaning found in
+    let effect = g.O.Object.effect c.args.task.now.object.now in
+    let is = taken_is c.deref.result.now found.counts.items process c.in-Some.taken.now c.in-Some.ensures.lookup.0 c.in-Some.ensures.lookup.1 c.deref.ensures in
+    let same = ap (λ (x : Configuration g.O.Object.Meaning). x.state) c.in_ok-_id.ensures.found in
+    let only = subst (IsNextStep effect history here process) (sym same) (c.requires history at) in
+    left_out effect (λ call. g.met.O.Object.determined c.args.task.now.object.now call) history c.args.task.now.rows.now here at.0 c.args.here.now.limit at.1 process c.in-Some.taken.now is
+    (sym c.ended_at.ensures ∙ c.in-None.is) (g.O.Object.meaning c.in_ok-_id.there.state) only (c.in_ok-are_all_alike.ensures history at c.if-branch.true)
+
+pub returns : goal.returns
+returns g c = λ history at.
+    let here = found_in g.O.Object.meaning c.args.here.now.found.now in
+    let same = ap (λ (x : Configuration g.O.Object.Meaning). x.state) c.in_ok-_id.ensures.found in
+    subst (IsNextStep (g.O.Object.effect c.args.task.now.object.now) history here c.args.process) (sym same) (c.requires history at)
