@@ -1,6 +1,6 @@
 //! How many calls of each process are made.
 
-ghost use Rattle.std.specs.Prelude.{◌≡◌, ◌↔◌, ◌<◌, ◌≤◌, ◌^◌, ◌*◌, length, replicate, slice_get, IfOk, IsTrue};
+ghost use Rattle.std.specs.Prelude.{◌≡◌, ◌↔◌, ◌<◌, ◌≤◌, ◌^◌, ◌*◌, get_or, length, replicate, slice_get, IfOk, IsTrue};
 ghost use Rattle.wf_counts.specs.Digits.{digits, one_more_at};
 
 use crate::each::with_one_more;
@@ -38,7 +38,20 @@ impl Model for Counts {
     ghost invariant = { λ c. IsKept c.form };
 }
 
+/// One more at a place of a number that has the greatest digit there: not in one number then. It is not inlined, since few counts get there.
+#[inline(never)]
+fn one_more_past(alloc: Global, number: u64, many: usize, place: usize) -> Result<Counts, NoMemory>
+    requires place { place < many }
+    requires greatest { get_or (digits many number) place 0 ≡ 255 }
+    ensures { IfOk result (λ more. more.items ≡ one_more_at place (digits many number)) }
+{
+    let each = all_digits(alloc, number, many)?;
+    let form = Form::Each(with_one_more(alloc, each.as_slice(), place)?);
+    Ok(Counts { form })
+}
+
 /// One more at a place of a number, which may not stand in one number then.
+#[inline(always)]
 fn one_more_in(alloc: Global, number: u64, many: usize, place: usize) -> Result<Counts, NoMemory>
     requires many { many ≤ 8 }
     requires number { number < 2 ^ (8 * many) }
@@ -49,9 +62,7 @@ fn one_more_in(alloc: Global, number: u64, many: usize, place: usize) -> Result<
         let form = Form::One(more, many);
         return Ok(Counts { form });
     }
-    let each = all_digits(alloc, number, many)?;
-    let form = Form::Each(with_one_more(alloc, each.as_slice(), place)?);
-    Ok(Counts { form })
+    one_more_past(alloc, number, many, place)
 }
 
 impl Counts {

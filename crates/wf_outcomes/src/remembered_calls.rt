@@ -78,20 +78,34 @@ fn row_of<S>(before: &Stated<S>, call: &KeptCall) -> usize {
     (number.wrapping_mul(SPREAD) >> (64 - ROW_BITS)) as usize
 }
 
+/// Whether two calls have the same arguments. Most have none, so that is asked first.
+#[inline(always)]
+fn has_same_arguments(call: &KeptCall, other: &KeptCall) -> bool
+    ensures { IsTrue result → call.now.args.items ≡ other.now.args.items }
+{
+    if call.args.is_empty() {
+        return other.args.is_empty();
+    }
+    call.args.lent().as_slice() == other.args.lent().as_slice()
+}
+
 /// Whether two calls are the same.
 #[inline(always)]
 fn is_same_call(call: &KeptCall, other: &KeptCall) -> bool
     ensures { IsTrue result → kept_call call.now ≡ kept_call other.now }
 {
-    call.proc == other.proc && call.args.lent().as_slice() == other.args.lent().as_slice()
+    call.proc == other.proc && has_same_arguments(call, other)
 }
 
-/// Whether two states have the same words.
+/// Whether two states have the same words. Many have one word alone, so that is asked first.
 #[inline(always)]
 pub(crate) fn has_same_words<S>(one: &Stated<S>, other: &Stated<S>) -> bool
     ensures { IsTrue result → one.now.words.items ≡ other.now.words.items }
 {
-    one.words.as_slice() == other.words.as_slice()
+    match (one.words.as_slice(), other.words.as_slice()) {
+        ([word], [another]) => *word == *another,
+        (words, others) => words == others,
+    }
 }
 
 /// Whether this call was made on a state with the same words.

@@ -1,5 +1,5 @@
 -- The digit at the place.
-use Rattle.std.proofs.Common.{◌≤◌, sym, ap, ◌∙◌, length, Some, arith}
+use Rattle.std.proofs.Common.{sym, ap, ◌∙◌, Some, arith}
 use Rattle.wf_counts.specs.Digits.{digits}
 use Rattle.wf_counts.proofs.Digits.{digit_is, length_digits, none_past}
 use Rattle.wf_counts.proofs.number.digit_at.Goals as goal

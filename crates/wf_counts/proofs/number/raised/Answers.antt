@@ -1,7 +1,6 @@
 -- The digit is the greatest one, or one more of it is a digit.
-use Rattle.std.proofs.Common.{sym, ap, ◌∙◌, subst, ℕ, ◌+◌, ◌*◌, ◌^◌, ◌<◌, ◌%◌, arith}
+use Rattle.std.proofs.Common.{sym, ap, ◌∙◌, ℕ, ◌+◌, ◌*◌, ◌^◌, ◌%◌, arith}
 use Rattle.std.proofs.lemmas.Nat.{one_shl}
-use Rattle.wf_counts.specs.Digits.{digits, IsRaised}
 use Rattle.wf_counts.proofs.Digits.{digit_there, is_raised, not_full, raised_fits}
 use Rattle.wf_counts.proofs.number.raised.Goals as goal
 
