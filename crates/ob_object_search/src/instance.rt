@@ -141,6 +141,21 @@ impl<'a> ModuleObject<'a> {
             None => Ok(None),
         }
     }
+
+    /// What a call makes of a state by the interpreter, and what it answers. It stands apart, so that a call by code makes no room for it.
+    #[inline(never)]
+    fn called_by_tree(
+        &self,
+        alloc: Global,
+        state: &KeptState,
+        call: SeenCall,
+    ) -> Result<(KeptState, Reply), NoMemory>
+        ensures { IfOk result (λ made. CallEnds (program_in self.now.checked.now) self.now.budget (seen_call call.entry) (kept_in state.now) (kept_in made.0) (Objects.reply_of made.1)) }
+    {
+        let before = state.state(alloc)?;
+        let (next, reply) = called(alloc, self.checked, before, call, self.budget)?;
+        Ok((kept(alloc, next.into_values())?, reply))
+    }
 }
 
 impl<'a> Object for ModuleObject<'a> {
@@ -178,9 +193,7 @@ impl<'a> Object for ModuleObject<'a> {
         if let Some(made) = self.called_by_code(state, call)? {
             return Ok(made);
         }
-        let before = state.state(alloc)?;
-        let (next, reply) = called(alloc, self.checked, before, call, self.budget)?;
-        Ok((kept(alloc, next.into_values())?, reply))
+        self.called_by_tree(alloc, state, call)
     }
 
     fn words(&self, alloc: Global, state: &KeptState) -> Result<Words, NoMemory> {

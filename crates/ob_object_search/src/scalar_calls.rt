@@ -46,7 +46,8 @@ pub(crate) struct ModuleCode {
     alloc: Global,
     pub(crate) calls: CodeCalls,
     words: usize,
-    work: Cell<Option<Work>>,
+    // A box: to lend it and to take it back moves one word.
+    work: Cell<Option<Box<Work>>>,
 }
 
 /// The code of a module, each call with so many turns. There is none where a variable is no scalar, where there are too many instructions,
@@ -87,17 +88,26 @@ fn call_in(alloc: Global, call: SeenCall) -> Result<Call, AllocError>
 
 impl ModuleCode {
     /// What a call can work in.
-    fn work(&self) -> Result<Work, NoMemory>
-        ensures { IfOk result (λ work. IsRoomFor (parts_in self.now.calls) work.room) }
+    fn work(&self) -> Result<Box<Work>, NoMemory>
+        ensures { IfOk result (λ work. IsRoomFor (parts_in self.now.calls) work.value.room) }
     {
         if let Some(work) = self.work.take() {
             if self.calls.has_room(&work.room) {
                 return Ok(work);
             }
         }
+        self.new_work()
+    }
+
+    /// The same, made anew.
+    #[cold]
+    #[inline(never)]
+    fn new_work(&self) -> Result<Box<Work>, NoMemory>
+        ensures { IfOk result (λ work. IsRoomFor (parts_in self.now.calls) work.value.room) }
+    {
         let room = self.calls.room(self.alloc)?;
         let block = vec![in self.alloc; 0; self.words]?;
-        Ok(Work { room, block })
+        Ok(Box::new(self.alloc, Work { room, block })?)
     }
 
     /// What a call that fits makes of variables with these values, and what it answers; nothing where the values are none of the module.
