@@ -24,22 +24,26 @@ types_mode false f fs v = rw v refl
 -- the values of the mode that a text says so far, for so many parameters: with others for what is left they are values of all
 pub record SaidTo (m : Bool) (formals : List Formal) (text : List ℕ) (i : ℕ) (left : List ℕ) (done : List Scalar) : Type 0 where
   pub said : List Word
-  pub joins : (ws : List Word) (others : List Scalar) → AreValues (types_of m (drop i formals)) ws others → AreValues (types_of m formals) (said ++ ws) (done ++ others)
+  pub joins : (ws : List Word) (others : List Scalar) → AreValues (types_of m (drop i formals)) ws others →
+      AreValues (types_of m formals) (said ++ ws) (done ++ others)
   pub parts : SaysFirst text said left
 
 pub nothing_yet : (m : Bool) (formals : List Formal) (text : List ℕ) → SaidTo m formals text 0 text []
 nothing_yet m formals text = record { said = []; joins = λ ws others h. h; parts = λ l ls e. e }
 
-module _ (m : Bool) (formals : List Formal) (text : List ℕ) (i : ℕ) (left : List ℕ) (done : List Scalar) (f d : Formal) (below : i < length formals) (is : f ≡ get_or formals i d)
-    (so_far : SaidTo m formals text i left done) where
+module _ (m : Bool) (formals : List Formal) (text : List ℕ) (i : ℕ) (left : List ℕ) (done : List Scalar) (f d : Formal)
+    (below : i < length formals) (is : f ≡ get_or formals i d) (so_far : SaidTo m formals text i left done) where
   pub other_mode : is_of_mode m f ≡ false → SaidTo m formals text (i + 1) left done
   other_mode v =
-      let same : types_of m (drop i formals) ≡ types_of m (drop (i + 1) formals) = rw (drop-cons formals i d, ← is, add-one) (types_other m f (drop (suc i) formals) v) in
+      let same : types_of m (drop i formals) ≡ types_of m (drop (i + 1) formals) =
+      rw (drop-cons formals i d, ← is, add-one) (types_other m f (drop (suc i) formals) v) in
       record { said = so_far.said; joins = λ ws others h. so_far.joins ws others (rw same h); parts = so_far.parts }
 
-  pub one_value_more : (s : Scalar) (rest : List ℕ) → is_of_mode m f ≡ true → BeginsWithValue f.scalar_type left s rest → SaidTo m formals text (i + 1) rest (done ++ s ∷ [])
+  pub one_value_more : (s : Scalar) (rest : List ℕ) → is_of_mode m f ≡ true → BeginsWithValue f.scalar_type left s rest →
+      SaidTo m formals text (i + 1) rest (done ++ s ∷ [])
   one_value_more s rest v h =
-      let first : types_of m (drop i formals) ≡ f.scalar_type ∷ types_of m (drop (i + 1) formals) = rw (drop-cons formals i d, ← is, add-one) (types_mode m f (drop (suc i) formals) v) in
+      let first : types_of m (drop i formals) ≡ f.scalar_type ∷ types_of m (drop (i + 1) formals) =
+      rw (drop-cons formals i d, ← is, add-one) (types_mode m f (drop (suc i) formals) v) in
       record {
         said = so_far.said ++ h.word ∷ [];
         joins = λ ws others k. rw (append_assoc, append_assoc) (so_far.joins (h.word ∷ ws) (s ∷ others) (rw first (Values.more h.says k)));
@@ -47,7 +51,8 @@ module _ (m : Bool) (formals : List Formal) (text : List ℕ) (i : ℕ) (left : 
       }
 
 -- all parameters, and the end of the line
-pub all_said : (m : Bool) (formals : List Formal) (text : List ℕ) (i : ℕ) (left : List ℕ) (done : List Scalar) (rest : List ℕ) → length formals ≤ i → left ≡ 10 ∷ rest →
+pub all_said : (m : Bool) (formals : List Formal) (text : List ℕ) (i : ℕ) (left : List ℕ) (done : List Scalar) (rest : List ℕ) →
+    length formals ≤ i → left ≡ 10 ∷ rest →
     SaidTo m formals text i left done → TakesValues (types_of m formals) text done rest
 all_said m formals text i left done rest past feed so_far =
     let no_formals : drop i formals ≡ [] = drop_all i formals past in

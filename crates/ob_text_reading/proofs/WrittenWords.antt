@@ -164,7 +164,8 @@ line_said processes text kind i b rest whole ends h l ls said =
     ap (λ t. map words (lines t)) h.parts ∙ word_said (kind ∷ []) 32 h.line one (omega arith) refl (h.named.word ∷ l) ls spaced
 
 -- a process of one digit, and one of as many digits as are read
-pub one_digit : (first : ℕ) (text : List ℕ) (process : ℕ) → is_ascii_digit first ≡ true → process ≡ first - 48 → BeginsWithProcess (first ∷ 46 ∷ text) process text
+pub one_digit : (first : ℕ) (text : List ℕ) (process : ℕ) → is_ascii_digit first ≡ true → process ≡ first - 48 →
+    BeginsWithProcess (first ∷ 46 ∷ text) process text
 one_digit first text process digit is =
     record {
       word = first ∷ [];
@@ -184,7 +185,8 @@ many_digits text rest process count digits spells some within point =
 
 -- a process, and the first digits behind the point
 pub id_begins : (processes : ℕ) (text behind : List ℕ) (process number count : ℕ) → BeginsWithProcess text process behind →
-    process < processes → list_all is_ascii_digit (take count behind) ≡ true → number_value (take count behind) ≡ number → number < 10 ^ 10 → 1 ≤ count → count ≤ length behind →
+    process < processes → list_all is_ascii_digit (take count behind) ≡ true → number_value (take count behind) ≡ number →
+    number < 10 ^ 10 → 1 ≤ count → count ≤ length behind →
     BeginsWithId processes text (record { process = process; number = number }) (drop count behind)
 id_begins processes text behind process number count h below digits spells small some within =
     let long : 1 ≤ length (take count behind) = rw length-take (grind (arith, common_steps)) in
@@ -258,7 +260,8 @@ module _ (processes : ℕ) (signatures : List Signature) (before : List (Event O
       }
 
   -- a line of several
-  pub more_applied : (tail : List ℕ) (r : Option (Bor (List ℕ))) → BeginsLine processes text 65 i (32 ∷ tail) → IfSome r (λ rest. TakesIds processes tail rest.now) →
+  pub more_applied : (tail : List ℕ) (r : Option (Bor (List ℕ))) → BeginsLine processes text 65 i (32 ∷ tail) →
+      IfSome r (λ rest. TakesIds processes tail rest.now) →
       MatchOption r (before ≡ before) (λ rest. TakesLine processes signatures before text before rest.now)
   more_applied tail None h k = refl
   more_applied tail (Some rest) h k =
