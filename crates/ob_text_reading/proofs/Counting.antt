@@ -1,15 +1,15 @@
 -- What the program's set of names and calls tells of the events by names.
-use Rattle.std.proofs.Common.{◌≡◌, ◌↔◌, ◌∙◌, ℕ, ◌<◌, ◌≤◌, Bool, List, [], ◌∷◌, ◌++◌, IsTrue, Option, Some, None, MatchOption, length, get_or, slice_get, refl, sym, ap, subst, arith}
+use Rattle.std.proofs.Common.{◌≡◌, ◌↔◌, ◌∙◌, ℕ, ◌<◌, Bool, [], ◌∷◌, ◌++◌, IsTrue, Option, Some, None, MatchOption, length, slice_get, refl, sym, ap, arith}
 use Rattle.std.proofs.Math.Dec.{eqb}
-use Rattle.std.specs.List.{Contains, position}
+use Rattle.std.specs.List.{position}
 use Rattle.ob_interface.specs.Call.{ObjectCall, Reply}
 use Rattle.ob_text_reading.specs.HistoryLines.{most_different}
-use Rattle.ob_text_reading.specs.Names.{AreBelow, AreNamed, HasNoPlace, IsPlaceOf, MayCome, MayEnd, Naming, events_of, known, named_all, new}
+use Rattle.ob_text_reading.specs.Names.{AreNamed, HasNoPlace, IsPlaceOf, MayCome, MayEnd, Naming, events_of, known, new}
 use Rattle.ob_text_reading.proofs.Growing.{as_before, begins_so, export_named_so, grown, may_begin, one_too_many, unknown_ends}
 use Rattle.ob_text_reading.proofs.HistoryPlaces.{known_place, unknown_place}
 use Rattle.ob_text_reading.specs.Seats.{EndsCall}
 use Rattle.wf_history.specs.declared.event.CallId.{CallId}
-use Rattle.wf_history.specs.History.{Event, Begin, End, IsHistory}
+use Rattle.wf_history.specs.History.{Begin, End, IsHistory}
 
 -- nothing has begun
 pub no_names : (n : Naming) → n.names ≡ [] → n.numbered ≡ [] → AreNamed n

@@ -1,12 +1,12 @@
 -- Lines read one after the other: where they are a history, and where they stop being one.
-use Rattle.std.proofs.Common.{◌≡◌, ◌∙◌, ℕ, ◌+◌, Bool, true, false, List, [], ◌∷◌, ◌++◌, IsTrue, Result, Ok, Err, IfErr, IfOk, length, refl, sym, ap, subst, arith, append_assoc, append-nil, length-append}
+use Rattle.std.proofs.Common.{◌≡◌, ◌∙◌, ℕ, ◌+◌, true, false, List, [], ◌∷◌, ◌++◌, length, refl, sym, ap, subst, arith, append_assoc, append-nil, length-append}
 use Rattle.std.proofs.lemmas.Bool.{false≢true}
 use Rattle.ob_text_reading.specs.HistoryLines as Lines
 use Rattle.ob_text_reading.specs.HistoryLines.{BeginsHistory, FailsAtLine, FaultStands, HistoryTold, IsHistoryFault, IsHistoryOf, IsHistoryPart, IsHistoryText, SaysNone, said}
 use Rattle.ob_text_reading.specs.Reading.{Heard, Leads, at_start, is_opened, told_in}
 use Rattle.ob_text_reading.proofs.Rest.{history_part, whole_history}
 use Rattle.ob_text_reading.proofs.Steps.{Steps, first_lead, here, joined, next, one_end, parted, said_alone, said_of_steps, steps_of_said}
-use Rattle.ob_text_reading.proofs.Whole.{arrives, one_told, part_arrives}
+use Rattle.ob_text_reading.proofs.Whole.{arrives, part_arrives}
 use Rattle.ob_text_reading.specs.RecordLines.{Line, record_lines}
 use Rattle.ob_text_reading.specs.declared.record_reading.RecordFault.{RecordFault}
 use Rattle.ob_text_reading.specs.declared.record_reading.RecordFault.TheVariants as Faults

@@ -1,22 +1,22 @@
 -- One event more, of a process that has a name already or gets one.
-use Rattle.std.proofs.Common.{◌≡◌, ◌≢◌, ◌∙◌, ℕ, ◌+◌, ◌-◌, ◌<◌, ◌≤◌, zero, suc, Bool, true, false, cond, List, [], ◌∷◌, ◌++◌, ◌⊎◌, inl, inr, All, Option, Some, None, MatchOption, length, get_or, map, slice_get, refl, sym, ap, ap₂, subst, arith, append-nil, eq-eqb}
-use Rattle.std.proofs.lemmas.Bool.{cases_eq, eqb-true, ne_eqb}
+use Rattle.std.proofs.Common.{◌≡◌, ◌≢◌, ◌∙◌, ℕ, ◌+◌, ◌-◌, ◌<◌, ◌≤◌, zero, suc, Bool, cond, List, [], ◌∷◌, ◌++◌, ◌⊎◌, inl, inr, All, Option, Some, None, MatchOption, length, get_or, slice_get, refl, sym, ap, ap₂, subst, arith, eq-eqb}
+use Rattle.std.proofs.lemmas.Bool.{cases_eq, ne_eqb}
 use Rattle.std.proofs.lemmas.List.{length_push, map-append}
-use Rattle.std.proofs.lemmas.List.Elements.{Contains-push_cases, at_from_Contains}
-use Rattle.std.proofs.lemmas.Option.{get_or_from_slice_get, slice_get-get_or, slice_get_within, same_Some}
+use Rattle.std.proofs.lemmas.List.Elements.{Contains-push_cases}
+use Rattle.std.proofs.lemmas.Option.{get_or_from_slice_get, slice_get-get_or, slice_get_within}
 use Rattle.std.proofs.Math.Dec.{eqb}
 use Rattle.std.specs.List.{Contains}
 use Rattle.indexmap.proofs.IndexTableLemmas.Probe.{pigeonhole}
 use Rattle.ob_interface.specs.Call.{ObjectCall, Reply}
 use Rattle.ob_text_reading.specs.HistoryLines.{HasFewProcesses, IsOfOne, most_different}
 use Rattle.ob_text_reading.specs.Names.{AreApart, AreBelow, AreNamed, HasNoPlace, IsBelow, IsPlaceOf, MayCome, MayEnd, Naming, events_of, known, named, named_all, new}
-use Rattle.ob_text_reading.proofs.Naming.{Events, all_of_one, apart_at, begun_of_one, calls_none, calls_own, events_none, events_own, find_name, name_at, named_history, numbered_history}
+use Rattle.ob_text_reading.proofs.Naming.{Events, all_of_one, apart_at, begun_of_one, calls_none, calls_own, events_none, name_at, named_history, numbered_history}
 use Rattle.ob_text_reading.proofs.Seating.{idle_ends}
 use Rattle.ob_text_reading.specs.Seats.{EndsCall}
 use Rattle.wf_history.proofs.Positions.{place_here, place_left, place_push}
 use Rattle.wf_history.proofs.Turns.{own_events-push}
 use Rattle.wf_history.specs.declared.event.CallId.{CallId}
-use Rattle.wf_history.specs.History.{Event, Begin, Applied, End, IsHistory, OwnEvent, Begins, Ends, own_calls, own_event, own_events}
+use Rattle.wf_history.specs.History.{Event, Begin, Applied, End, IsHistory, OwnEvent, Begins, own_calls, own_event, own_events}
 
 pub below_weaker : {m n : ℕ} (e : Event ObjectCall Reply) → m ≤ n → IsBelow m e → IsBelow n e
 below_weaker (Begin id call) le h = omega (arith, le, h)

@@ -1,17 +1,17 @@
 -- The place of a process among the names, as the set of names tells it.
-use Rattle.std.proofs.Common.{◌≡◌, ◌≢◌, ◌∙◌, ℕ, ◌+◌, ◌<◌, ◌≤◌, ◌||◌, zero, suc, not, Bool, true, false, cond, List, [], ◌∷◌, ◌++◌, ◌⊎◌, inl, inr, Option, Some, None, length, get_or, slice_get, refl, sym, ap, subst, arith, eq-eqb}
+use Rattle.std.proofs.Common.{◌≡◌, ◌∙◌, ℕ, ◌+◌, ◌<◌, ◌≤◌, ◌||◌, zero, suc, not, Bool, true, false, cond, List, [], ◌∷◌, ◌++◌, ◌⊎◌, inl, inr, Some, None, length, get_or, slice_get, refl, sym, ap, subst, arith, eq-eqb}
 use Rattle.std.proofs.lemmas.Bool.{eqb-true, false≢true, ltb-false, ltb-true}
 use Rattle.std.proofs.lemmas.Option.{same_Some}
 use Rattle.std.proofs.Math.Dec.{eqb, ltb}
 use Rattle.std.specs.List.{Contains, list_any, position, position_or_len}
 use Rattle.indexmap.specs.IndexSet.{insert_key}
-use Rattle.ob_interface.specs.Call.{ObjectCall, Reply}
+use Rattle.ob_interface.specs.Call.{ObjectCall}
 use Rattle.ob_text_reading.specs.HistoryLines.{most_different}
-use Rattle.ob_text_reading.specs.Names.{AreNamed, HasNoPlace, IsPlaceOf, MayCome, Naming, events_of, known, new}
+use Rattle.ob_text_reading.specs.Names.{AreNamed, IsPlaceOf, MayCome, Naming, events_of, known, new}
 use Rattle.ob_text_reading.proofs.Growing.{Grown, as_before, grown, longer, one_too_many}
 use Rattle.ob_text_reading.proofs.Naming.{low_or_not}
 use Rattle.wf_history.specs.declared.event.CallId.{CallId}
-use Rattle.wf_history.specs.History.{Event, Begin}
+use Rattle.wf_history.specs.History.{Begin}
 
 -- a process has a place, the first one at which its name stands, or its name stands nowhere
 pub data Sought (names : List ℕ) (q : ℕ) : Type 0 where

@@ -9,8 +9,6 @@ pub mod KindsLed
 pub mod LineRuns
 pub mod Naming
 pub mod NoComments
-pub mod NothingSaid
-pub mod Numbers
 pub mod OneEvent
 pub mod Opened
 pub mod Openers
@@ -23,4 +21,5 @@ pub mod Steps
 pub mod Telling
 pub mod Whole
 pub mod WordsTaken
-pub mod WrittenWords
+mod WrittenValues
+mod WrittenWords

@@ -1,5 +1,5 @@
 -- The line of how many processes there are, and the openings of variables.
-use Rattle.std.proofs.Common.{◌≡◌, ◌↔◌, ◌∙◌, ℕ, ap₂, option_map, List, [], ◌∷◌, IsTrue, Option, Some, None, MatchOption, codes, is_some, length, slice_get, refl, sym, ap, subst}
+use Rattle.std.proofs.Common.{◌≡◌, ◌↔◌, ◌∙◌, ℕ, ap₂, option_map, List, [], ◌∷◌, IsTrue, Option, Some, None, codes, is_some, length, slice_get, refl, sym, ap, subst}
 use Rattle.std.proofs.lemmas.Bool.{false≢true}
 use Rattle.std.proofs.lemmas.Option.{same_Some}
 use Rattle.ob_meaning.specs.ByPositionValue.{Value}

@@ -1,5 +1,5 @@
 -- What lines are that lead somewhere: a history, or the first lines of one.
-use Rattle.std.proofs.Common.{◌≡◌, ◌∙◌, ℕ, ◌+◌, ◌<◌, ◌≤◌, zero, suc, ◌==◌, ◌||◌, Bool, true, false, eq-eqb, List, [], ◌∷◌, ◌++◌, ◌⊎◌, inl, inr, All, Option, Some, None, IsTrue, length, take, drop, slice_get, refl, sym, ap, ap₂, subst, arith, append_assoc, append-nil, add-one}
+use Rattle.std.proofs.Common.{◌≡◌, ◌∙◌, ℕ, ◌<◌, ◌≤◌, zero, suc, ◌==◌, ◌||◌, Bool, true, false, eq-eqb, List, [], ◌∷◌, ◌++◌, ◌⊎◌, inl, inr, All, Option, Some, None, IsTrue, length, take, drop, slice_get, refl, sym, ap, ap₂, subst, arith, append_assoc, append-nil, add-one}
 use Rattle.std.proofs.lemmas.Bool.{eqb-true}
 use Rattle.std.proofs.lemmas.List.{length_push, take_all, take-append-drop}
 use Rattle.std.proofs.lemmas.List.Elements.{All-cons, All-nil}
@@ -8,12 +8,11 @@ use Rattle.ob_meaning.specs.ByPositionStore.{Activation, Holds}
 use Rattle.ob_interface.specs.Call.{ObjectCall, Reply}
 use Rattle.ob_text_reading.specs.HistoryLines as Lines
 use Rattle.ob_text_reading.specs.HistoryLines.{AreEventLines, AtMostOne, HistoryTold, IsAnyCount, IsAnyTitle, IsFront, IsHistoryOf, IsHistoryPart, TellsBudget, TellsOpening, is_said}
-use Rattle.ob_text_reading.specs.Reading.{Heard, Leads, LeadsAs, NamesCalls, at_stage, at_start, carried_in, is_opened, kind_of, place, told_in}
+use Rattle.ob_text_reading.specs.Reading.{Heard, LeadsAs, NamesCalls, at_stage, at_start, carried_in, is_opened, kind_of, place, told_in}
 use Rattle.ob_text_reading.specs.declared.kind.LineKind.{LineKind}
 use Rattle.ob_text_reading.specs.declared.kind.LineKind.TheVariants as Kinds
-use Rattle.ob_text_reading.specs.declared.kind.Stage.{Stage}
 use Rattle.ob_text_reading.specs.declared.kind.Stage.TheVariants as Stages
-use Rattle.ob_text_reading.proofs.Steps.{AreSaid, Steps, here, more, next, none, said_apart}
+use Rattle.ob_text_reading.proofs.Steps.{AreSaid, Steps, here, more, next, said_apart}
 use Rattle.ob_text_reading.specs.Openings as Openings
 use Rattle.ob_text_reading.specs.Openings.{AreOpenings}
 use Rattle.ob_text_reading.specs.RecordLines as Records

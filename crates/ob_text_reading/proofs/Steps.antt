@@ -1,8 +1,7 @@
 -- What lines lead to, one after the other: at most one thing, whatever lines between them say nothing.
-use Rattle.std.proofs.Common.{◌≡◌, ◌∙◌, ℕ, ◌==◌, ◌||◌, not, cond, Bool, true, false, List, [], ◌∷◌, ◌++◌, Some, refl, sym, ap, ap₂, subst, arith}
+use Rattle.std.proofs.Common.{◌≡◌, ◌∙◌, ℕ, ◌==◌, ◌||◌, not, cond, Bool, true, false, List, [], ◌∷◌, ◌++◌, Some, refl, sym, ap, subst}
 use Rattle.std.proofs.lemmas.Option.{same_Some}
-use Rattle.ob_checked.specs.Exports.{signatures}
-use Rattle.ob_meaning.specs.ByPositionStore.{Activation, Holds}
+use Rattle.ob_meaning.specs.ByPositionStore.{Holds}
 use Rattle.ob_meaning.specs.ByPositionValue.{Value}
 use Rattle.ob_interface.specs.Call.{ObjectCall, Reply}
 use Rattle.ob_text_reading.specs.HistoryLines.{is_said, said}

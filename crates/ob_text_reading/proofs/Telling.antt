@@ -1,5 +1,5 @@
 -- Why a line of an event is none that may stand there.
-use Rattle.std.proofs.Common.{◌≡◌, ◌∙◌, ℕ, List, [], ◌∷◌, ◌++◌, codes, inl, inr, sym, ap, subst, arith}
+use Rattle.std.proofs.Common.{◌≡◌, ◌∙◌, List, [], ◌∷◌, ◌++◌, codes, inl, inr, sym, ap, subst, arith}
 use Rattle.ob_interface.specs.Call.{ObjectCall, Reply}
 use Rattle.ob_interface.specs.Export.{Signature}
 use Rattle.ob_text_reading.specs.HistoryLines.{HasFewProcesses, IsNamedEvent, process_numbers}

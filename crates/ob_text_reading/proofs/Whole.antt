@@ -1,5 +1,5 @@
 -- Each history is read: its lines lead to what it tells.
-use Rattle.std.proofs.Common.{◌≡◌, ◌∙◌, ℕ, ◌+◌, ◌<◌, ◌≤◌, zero, suc, Bool, true, false, List, [], ◌∷◌, ◌++◌, ◌⊎◌, inl, inr, All, Option, Some, None, IsTrue, length, slice_get, refl, sym, ap, ap₂, subst, arith, append_assoc, append-nil}
+use Rattle.std.proofs.Common.{◌≡◌, ◌∙◌, ℕ, ◌+◌, ◌<◌, suc, List, [], ◌∷◌, ◌++◌, inl, inr, All, Option, Some, None, IsTrue, length, slice_get, refl, sym, ap, ap₂, subst, arith, append_assoc, append-nil}
 use Rattle.std.proofs.lemmas.List.{length_push}
 use Rattle.std.proofs.lemmas.List.Elements.{All-head, All-tail}
 use Rattle.ob_checked.specs.Exports.{signatures}
@@ -7,7 +7,7 @@ use Rattle.ob_meaning.specs.ByPositionStore.{Activation, Holds}
 use Rattle.ob_interface.specs.Call.{ObjectCall, Reply}
 use Rattle.ob_text_reading.specs.HistoryLines as Lines
 use Rattle.ob_text_reading.specs.HistoryLines.{AreEventLines, AtMostOne, HistoryTold, IsAnyCount, IsAnyTitle, IsFront, IsHistoryOf, IsHistoryPart, IsNamedEvent, TellsBudget, TellsOpening, process_numbers}
-use Rattle.ob_text_reading.specs.Reading.{Heard, Leads, LeadsAs, NamesCalls, at_stage, at_start, carried_in, is_opened, kind_of, place, told_in}
+use Rattle.ob_text_reading.specs.Reading.{Heard, Leads, LeadsAs, NamesCalls, at_start, carried_in, is_opened, kind_of, place, told_in}
 use Rattle.ob_text_reading.specs.declared.kind.LineKind.{LineKind}
 use Rattle.ob_text_reading.specs.declared.kind.LineKind.TheVariants as Kinds
 use Rattle.ob_text_reading.specs.declared.kind.Stage.{Stage}

@@ -1,10 +1,12 @@
 -- The words that a text begins with, up to a blank or a line feed.
 use Rattle.std.proofs.Common.{◌≡◌, ℕ, ◌+◌, ◌-◌, ◌<◌, ◌≤◌, ◌^◌, ◌==◌, Bool, true, false, Some, List, [], ◌∷◌, ◌++◌, length, map, take, drop, get_or, refl, sym, ◌∙◌, ap, subst, arith, zero-add, zero, suc, codes}
-use Rattle.std.proofs.Common.{append-nil, length-append, Bor, Result, Ok, Err, IfOk, Option, None, MatchOption}
+use Rattle.std.proofs.Common.{append-nil, append_assoc, length-append, Bor, Result, Ok, Err, IfOk, IfSome, Option, None, MatchOption}
 use Rattle.ob_interface.specs.Call.{ObjectCall, Reply}
 use Rattle.ob_interface.specs.Export.{Signature}
+use Rattle.ob_interface.specs.declared.scalar.Scalar.{Scalar}
+use Rattle.ob_interface.specs.declared.scalar.ScalarType.{ScalarType}
 use Rattle.ob_text_reading.specs.LineReading as Reading
-use Rattle.ob_text_reading.specs.LineReading.{TakesBegin, TakesEnd, TakesLine}
+use Rattle.ob_text_reading.specs.LineReading.{BeginsWithProcess, BeginsWithValue, TakesBegin, TakesEnd, TakesIds, TakesLine}
 use Rattle.ob_text_reading.specs.RecordLines as Lines
 use Rattle.wf_history.specs.History.{Event}
 use Rattle.std.specs.Char.{is_ascii_digit, digit_value}
@@ -16,9 +18,10 @@ use Rattle.std.proofs.lemmas.List.Splits.{slice_split-cons_yes, slice_split-cons
 use Rattle.std.proofs.lemmas.Grind.{common_steps}
 use Rattle.std.proofs.lemmas.Bool.Decides.{nat_tests}
 use Rattle.ob_scan.specs.Spelling.{number_value}
+use Rattle.ob_text_words.specs.Values.{IsValue}
 use Rattle.ob_text_words.specs.Words.{Word, is_blank, lines, words}
 use Rattle.ob_text_reading.specs.LineReading.{BeginsLine, BeginsWithId, BeginsWithWord, EndsWord, TakesId, ends_word}
-use Rattle.ob_text_reading.specs.RecordLines.{IsId, Line, id}
+use Rattle.ob_text_reading.specs.RecordLines.{AreIds, IsId, Line, id}
 use Rattle.ob_text_reading.proofs.WordsTaken.{digit_is, both}
 use Rattle.ob_text_values_reading.proofs.WordsTaken.{HasNoBlank, behind_blank, word_alone, word_then}
 use Rattle.wf_history.specs.declared.event.CallId.{CallId}
@@ -160,19 +163,91 @@ line_said processes text kind i b rest whole ends h l ls said =
     let one : IsWhole (kind ∷ []) = All-cons (λ b. ends_word b ≡ false) kind [] whole (All-nil (λ b. ends_word b ≡ false)) in
     ap (λ t. map words (lines t)) h.parts ∙ word_said (kind ∷ []) 32 h.line one (omega arith) refl (h.named.word ∷ l) ls spaced
 
--- a process of one digit, and the first digits behind the point
-pub short_begins : (processes : ℕ) (first : ℕ) (text : List ℕ) (process number count : ℕ) → is_ascii_digit first ≡ true → process ≡ first - 48 →
-    process < processes → list_all is_ascii_digit (take count text) ≡ true → number_value (take count text) ≡ number → number < 10 ^ 10 → 1 ≤ count → count ≤ length text →
-    BeginsWithId processes (first ∷ 46 ∷ text) (record { process = process; number = number }) (drop count text)
-short_begins processes first text process number count digit is below digits spells small some within =
+-- a process of one digit, and one of as many digits as are read
+pub one_digit : (first : ℕ) (text : List ℕ) (process : ℕ) → is_ascii_digit first ≡ true → process ≡ first - 48 →
+    BeginsWithProcess (first ∷ 46 ∷ text) process text
+one_digit first text process digit is =
+    record {
+      word = first ∷ [];
+      spells = record { digits = rw digit refl; some = omega arith; spells = zero-add (digit_value first) ∙ digit_is first digit ∙ sym is };
+      parts = refl;
+    }
+
+pub many_digits : (text rest : List ℕ) (process count : ℕ) → list_all is_ascii_digit (take count text) ≡ true → number_value (take count text) ≡ process →
+    1 ≤ count → count ≤ length text → drop count text ≡ 46 ∷ rest → BeginsWithProcess text process rest
+many_digits text rest process count digits spells some within point =
     let long : 1 ≤ length (take count text) = rw length-take (grind (arith, common_steps)) in
     record {
-      word = first ∷ 46 ∷ take count text;
-      names = id {first = first ∷ []} {second = take count text} {p = process} {k = number}
-          (record { digits = rw digit refl; some = omega arith; spells = zero-add (digit_value first) ∙ digit_is first digit ∙ sym is }) below
-          (record { digits = digits; some = long; spells = spells }) (omega arith);
-      parts = ap (λ t. first ∷ 46 ∷ t) (sym (take-append-drop count text));
+      word = take count text;
+      spells = record { digits = digits; some = long; spells = spells };
+      parts = sym (take-append-drop count text) ∙ ap (λ t. take count text ++ t) point;
     }
+
+-- a process, and the first digits behind the point
+pub id_begins : (processes : ℕ) (text behind : List ℕ) (process number count : ℕ) → BeginsWithProcess text process behind →
+    process < processes → list_all is_ascii_digit (take count behind) ≡ true → number_value (take count behind) ≡ number →
+    number < 10 ^ 10 → 1 ≤ count → count ≤ length behind →
+    BeginsWithId processes text (record { process = process; number = number }) (drop count behind)
+id_begins processes text behind process number count h below digits spells small some within =
+    let long : 1 ≤ length (take count behind) = rw length-take (grind (arith, common_steps)) in
+    record {
+      word = h.word ++ 46 ∷ take count behind;
+      names = id {first = h.word} {second = take count behind} {p = process} {k = number} h.spells below
+          (record { digits = digits; some = long; spells = spells }) (omega arith);
+      parts = rw append_assoc (h.parts ∙ ap (λ t. h.word ++ 46 ∷ t) (sym (take-append-drop count behind)));
+    }
+
+-- a value behind a space
+pub value_begins : (type : ScalarType) (text word : List ℕ) (value : Scalar) (rest : List ℕ) → BeginsWithWord text word rest → IsValue type word value →
+    BeginsWithValue type (32 ∷ text) value rest
+value_begins type text word value rest begins says =
+    record { word = word; says = says; parts = λ l ls said. blank_said 32 text refl ∙ begins l ls said }
+
+-- the words of a text so far, in front of its first line's others
+abbrev pub SaysFirst : List ℕ → List Word → List ℕ → Type 0
+SaysFirst text said left = (l : Line) (ls : List Line) → map words (lines left) ≡ l ∷ ls → map words (lines text) ≡ (said ++ l) ∷ ls
+
+word_more : (text : List ℕ) (said : List Word) (left : List ℕ) (word : Word) (rest : List ℕ) → SaysFirst text said left → BeginsWithWord left word rest →
+    SaysFirst text (said ++ word ∷ []) rest
+word_more text said left word rest so_far begins l ls e = rw append_assoc (so_far (word ∷ l) ls (begins l ls e))
+
+-- the calls that a text names so far
+pub record NamesTo (processes : ℕ) (text left : List ℕ) : Type 0 where
+  pub said : List Word
+  pub ids : List CallId
+  pub names : (ws : List Word) (others : List CallId) → AreIds processes ws others → AreIds processes (said ++ ws) (ids ++ others)
+  pub parts : SaysFirst text said left
+
+pub no_name_yet : (processes : ℕ) (text : List ℕ) → NamesTo processes text text
+no_name_yet processes text = record { said = []; ids = []; names = λ ws others h. h; parts = λ l ls e. e }
+
+module _ (processes : ℕ) (text left : List ℕ) (i : CallId) where
+  -- the name of a call is a word of the first line
+  name_said : (b : ℕ) (rest : List ℕ) → ends_word b ≡ true → (h : BeginsWithId processes left i (b ∷ rest)) → BeginsWithWord left h.word (b ∷ rest)
+  name_said b rest ends h l ls e =
+      let name = id_whole h.names in
+      ap (λ t. map words (lines t)) h.parts ∙ word_said h.word b rest name.0 name.1 ends l ls e
+
+  pub one_name_more : (rest : List ℕ) → NamesTo processes text left → BeginsWithId processes left i (32 ∷ rest) → NamesTo processes text rest
+  one_name_more rest so_far h =
+      record {
+        said = so_far.said ++ h.word ∷ [];
+        ids = so_far.ids ++ i ∷ [];
+        names = λ ws others k. rw (append_assoc, append_assoc) (so_far.names (h.word ∷ ws) (i ∷ others) (Lines.more h.names k));
+        parts = word_more text so_far.said left h.word rest so_far.parts (λ l ls e. name_said 32 rest refl h l ls (blank_said 32 rest refl ∙ e));
+      }
+
+  pub last_name : (rest : List ℕ) → NamesTo processes text left → BeginsWithId processes left i (10 ∷ rest) → TakesIds processes text rest
+  last_name rest so_far h =
+      record {
+        line = so_far.said ++ h.word ∷ [];
+        ids = so_far.ids ++ i ∷ [];
+        names = so_far.names (h.word ∷ []) (i ∷ []) (Lines.more h.names Lines.none);
+        parts = so_far.parts (h.word ∷ []) (map words (lines rest)) (name_said 10 rest refl h [] (map words (lines rest)) (feed_said 10 rest refl));
+      }
+
+  pub name_shorter : (b : ℕ) (rest : List ℕ) → BeginsWithId processes left i (b ∷ rest) → length rest < length left
+  name_shorter b rest h = rw h.parts (let long = length-append h.word (b ∷ rest) in omega (arith, long))
 
 module _ (processes : ℕ) (signatures : List Signature) (before : List (Event ObjectCall Reply)) (text : List ℕ) (i : CallId) where
   -- a line of one applied call
@@ -182,6 +257,18 @@ module _ (processes : ℕ) (signatures : List Signature) (before : List (Event O
         line = codes "A" ∷ h.named.word ∷ [];
         parts = line_said processes text 65 i 10 rest refl refl h [] (map words (lines rest)) (feed_said 10 rest refl);
         leads = Reading.applied (Lines.applied (Lines.more h.named.names Lines.none));
+      }
+
+  -- a line of several
+  pub more_applied : (tail : List ℕ) (r : Option (Bor (List ℕ))) → BeginsLine processes text 65 i (32 ∷ tail) →
+      IfSome r (λ rest. TakesIds processes tail rest.now) →
+      MatchOption r (before ≡ before) (λ rest. TakesLine processes signatures before text before rest.now)
+  more_applied tail None h k = refl
+  more_applied tail (Some rest) h k =
+      record {
+        line = codes "A" ∷ h.named.word ∷ k.line;
+        parts = line_said processes text 65 i 32 tail refl refl h k.line (map words (lines rest.now)) (blank_said 32 tail refl ∙ k.parts);
+        leads = Reading.applied (Lines.applied (Lines.more h.named.names k.names));
       }
 
   -- what is taken up behind the name of a call

@@ -1,5 +1,4 @@
 -- What the program's values of this crate stand for.
-use Rattle.std.specs.Prelude.{Option}
 use Rattle.ob_store.specs.View.{variables_in}
 use Rattle.ob_text_reading.specs.HistoryLines.{HistoryTold}
 use Rattle.ob_text_reading.specs.Names.{events_of, named_all}

@@ -3,12 +3,15 @@ use Rattle.std.specs.Prelude.{◌≡◌, ℕ, ◌+◌, List, [], ◌∷◌, ◌+
 use Rattle.std.specs.Borrow.{Bor}
 use Rattle.ob_interface.specs.Call.{ObjectCall, Reply}
 use Rattle.ob_interface.specs.Export.{Signature}
+use Rattle.ob_interface.specs.declared.scalar.Scalar.{Scalar}
+use Rattle.ob_interface.specs.declared.scalar.ScalarType.{ScalarType}
 use Rattle.ob_text_reading.specs.declared.line.Line as Rust
 use Rattle.ob_text_reading.specs.declared.line.Line.TheVariants as Says
 use Rattle.ob_text_reading.specs.declared.record_reading.RecordFault.{RecordFault}
 use Rattle.ob_text_reading.specs.declared.record_reading.RecordFault.TheVariants as Faults
 use Rattle.ob_text_reading.specs.RecordLines.{AreIds, AreLines, IsApplied, IsId, IsNextEvent, IsOrder, IsTail, Line}
-use Rattle.ob_text_words.specs.Words.{Word, is_blank, lines, words}
+use Rattle.ob_text_words.specs.Values.{AreValues, IsValue}
+use Rattle.ob_text_words.specs.Words.{IsNumeral, Word, is_blank, lines, words}
 use Rattle.wf_history.specs.declared.event.CallId.{CallId}
 use Rattle.wf_history.specs.History.{Event, Begin, End}
 use Rattle.wf_history.specs.View.{kept_call, kept_reply}
@@ -46,6 +49,12 @@ pub data EndsWord : List ℕ → List ℕ → Type 0 where
 abbrev pub ends_word : ℕ → Bool
 ends_word b = is_blank b || (b == 10)
 
+-- a text begins with the number of a process and a point, and this stands behind the point
+pub record BeginsWithProcess (text : List ℕ) (process : ℕ) (behind : List ℕ) : Type 0 where
+  pub word : Word
+  pub spells : IsNumeral word process
+  pub parts : text ≡ word ++ 46 ∷ behind
+
 -- a text begins with the name of a call, and this stands behind it
 pub record BeginsWithId (processes : ℕ) (text : List ℕ) (i : CallId) (behind : List ℕ) : Type 0 where
   pub word : Word
@@ -61,6 +70,25 @@ pub record BeginsLine (processes : ℕ) (text : List ℕ) (kind : ℕ) (i : Call
 -- the first line of a text begins with a word, and this stands behind it
 abbrev pub BeginsWithWord : List ℕ → Word → List ℕ → Type 0
 BeginsWithWord text word behind = (l : Line) (ls : List Line) → map words (lines behind) ≡ l ∷ ls → map words (lines text) ≡ (word ∷ l) ∷ ls
+
+-- the first line of a text begins with a value of a type, and this stands behind its word
+pub record BeginsWithValue (type : ScalarType) (text : List ℕ) (value : Scalar) (behind : List ℕ) : Type 0 where
+  pub word : Word
+  pub says : IsValue type word value
+  pub parts : BeginsWithWord text word behind
+
+-- the first line of a text says values of these types, and this stands behind the line
+pub record TakesValues (types : List ScalarType) (text : List ℕ) (values : List Scalar) (rest : List ℕ) : Type 0 where
+  pub line : Line
+  pub says : AreValues types line values
+  pub parts : map words (lines text) ≡ line ∷ map words (lines rest)
+
+-- the first line of a text names calls, and this stands behind the line
+pub record TakesIds (processes : ℕ) (text rest : List ℕ) : Type 0 where
+  pub line : Line
+  pub ids : List CallId
+  pub names : AreIds processes line ids
+  pub parts : map words (lines text) ≡ line ∷ map words (lines rest)
 
 module _ (processes : ℕ) (signatures : List Signature) (before : List (Event ObjectCall Reply)) where
   -- behind these events, a line leads to those

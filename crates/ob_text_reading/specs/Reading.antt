@@ -1,8 +1,7 @@
 -- How reading goes on: what has been heard so far, and what one more line makes of it.
-use Rattle.std.specs.Prelude.{◌≡◌, ℕ, ◌+◌, ◌<◌, ◌==◌, ◌||◌, Bool, true, false, IsTrue, List, [], ◌∷◌, ◌++◌, if◌then◌else◌, length, slice_get, Option, Some, None, MatchOption}
+use Rattle.std.specs.Prelude.{◌≡◌, ℕ, ◌<◌, ◌==◌, ◌||◌, Bool, IsTrue, List, [], ◌∷◌, ◌++◌, if◌then◌else◌, length, slice_get, Option, Some, None, MatchOption}
 use Rattle.ob_checked.specs.Exports.{signatures}
 use Rattle.ob_interface.specs.Call.{ObjectCall, Reply}
-use Rattle.ob_interface.specs.Export.{Signature}
 use Rattle.ob_meaning.specs.ByPositionStore.{Activation, Holds}
 use Rattle.ob_meaning.specs.ByPositionValue.{Value}
 use Rattle.ob_text_reading.specs.HistoryLines.{HistoryTold, IsAnyCount, IsAnyTitle, IsNamedEvent, process_numbers}

@@ -5,10 +5,9 @@ ghost use Rattle.ob_text_reading.specs.RecordLines.{AreIds, IsId};
 ghost use Rattle.ob_text_words.specs.Words.{words};
 ghost use Rattle.wf_history.specs.declared.event.CallId.{CallId};
 
-use crate::number::read_number;
 use crate::taking::take_id;
 use ob_text_values_reading::words::next_word;
-use ob_text_words::numbers::split_digits;
+use ob_text_words::numbers::{read_numeral, split_digits};
 use std::alloc::{AllocError, Global};
 use wf_history::CallId;
 
@@ -20,8 +19,8 @@ pub(crate) fn read_id(processes: usize, word: &[u8]) -> Option<CallId>
     let Some((b'.', rest)) = behind.split_first() else {
         return None;
     };
-    let process = usize::try_from(read_number(digits)?).ok()?;
-    let number = read_number(rest)?;
+    let process = usize::try_from(read_numeral(digits)?).ok()?;
+    let number = read_numeral(rest)?;
     if process >= processes {
         return None;
     }

@@ -53,7 +53,7 @@ pub(crate) fn read_openings<'a>(
 }
 
 /// Appends a value.
-fn push_value(values: &mut Vec<Value>, value: Value) -> Result<(), AllocError>
+pub(crate) fn push_value(values: &mut Vec<Value>, value: Value) -> Result<(), AllocError>
     ensures { OnOk result (values.new.items ≡ values.old.items ++ «value» ∷ []) }
 {
     values.push(value)?;

@@ -1,16 +1,14 @@
 //! What the lines so far have told, and one more of them.
 
-ghost use Rattle.std.specs.Prelude.{◌≡◌, ◌↔◌, ◌<◌, ◌∷◌, ◌++◌, [], map, option_map, slice_get, IfOk, IsTrue, OnOk};
+ghost use Rattle.std.specs.Prelude.{◌≡◌, ◌↔◌, ◌<◌, ◌∷◌, ◌++◌, [], map, option_map, slice_get, IfOk, IsTrue};
 ghost use Rattle.ob_checked.specs.CheckedModule.{program_in};
 ghost use Rattle.ob_checked.specs.View.{table_of, variable_of};
-ghost use Rattle.ob_meaning.specs.ByPositionStore.{Holds};
-ghost use Rattle.ob_store.specs.View.{value_in, variables_in};
+ghost use Rattle.ob_store.specs.View.{variables_in};
 ghost use Rattle.ob_text_reading.specs.HistoryLines.{IsAnyCount};
 ghost use Rattle.ob_text_reading.specs.Names.{MayCome, events_of};
 ghost use Rattle.ob_text_reading.specs.Reading.{FindsProcess, Leads, LeadsAs, NamesCalls, at_stage, at_start, event_said, is_opened, place};
 ghost use Rattle.ob_text_reading.specs.HistoryContents.{heard_of};
 ghost use Rattle.ob_text_reading.specs.declared.kind.LineKind.TheVariants as Kinds;
-ghost use Rattle.ob_text_reading.specs.RecordLines.{IsTail};
 ghost use Rattle.ob_text_words.specs.Finding.{FindsAs};
 ghost use Rattle.ob_text_words.specs.Words.{words};
 
@@ -19,7 +17,8 @@ use crate::head::read_budget;
 use crate::id::are_ids;
 use crate::kind::{LineKind, Stage, kind_of};
 use crate::names::NamedCalls;
-use crate::opening::read_opening;
+use crate::opening::{push_value, read_opening};
+use crate::splitting::is_tail_line;
 use ob_checked::checked::Checked;
 use ob_checked::program::Variable;
 use ob_checked::types::Types;
@@ -245,16 +244,6 @@ impl Reader {
     }
 }
 
-/// Whether the first byte of a line's first word is `S` or `V`. Its other words are not looked at: a schedule's are as many as its steps.
-fn is_tail_line(line: &[u8]) -> bool
-    ensures { IsTrue result ↔ IsTail (words line.now) }
-{
-    let Some((first, _rest)) = next_word(line) else {
-        return false;
-    };
-    matches!(first.first(), Some(b'S' | b'V'))
-}
-
 /// Whether a line tells how many processes there are: `n N`.
 fn is_count(words: &[&[u8]]) -> bool
     ensures { IsTrue result ↔ IsAnyCount (map (λ w. w.now) words.now) }
@@ -297,14 +286,6 @@ fn variable_at<'a>(types: &Types, variables: &'a [Variable], number: usize) -> O
 {
     let _types = types;
     variables.get(number)
-}
-
-/// Appends a value.
-fn push_value(values: &mut Vec<Value>, value: Value) -> Result<(), AllocError>
-    ensures { OnOk result (variables_in values.new.items ≡ variables_in values.old.items ++ Holds (value_in «value») ∷ []) }
-{
-    values.push(value)?;
-    Ok(())
 }
 
 /// The calls with one more event.

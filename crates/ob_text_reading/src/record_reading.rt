@@ -254,7 +254,7 @@ fn read_events<'a>(
     let mut left = behind;
     let mut number = head;
     while let Some(text) = left {
-        if let Some(behind) = take_written(alloc, exports, calls, text, list)? {
+        if let Some(behind) = take_written(alloc, exports, calls, text)? {
             number += 1;
             left = Some(behind);
             continue;
@@ -269,7 +269,7 @@ fn read_events<'a>(
             Line::End(id, reply) => calls.end(id, reply)?,
             Line::Applied => {}
             Line::Order(order) => {
-                return match first_other(alloc, rest)? {
+                return match first_other(rest) {
                     Some(other) => Err(RecordFault::Form(number + other + 1)),
                     None => Ok(order),
                 };

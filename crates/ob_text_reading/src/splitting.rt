@@ -1,49 +1,40 @@
 //! The lines behind the order.
 
-ghost use Rattle.std.specs.Prelude.{◌↔◌, ◌<◌, ◌^◌, All, IfOk, IfSome, IsTrue, MatchOption, length, map};
+ghost use Rattle.std.specs.Prelude.{◌↔◌, ◌<◌, ◌^◌, All, IfSome, IsTrue, MatchOption, length};
 ghost use Rattle.ob_text_words.specs.Words.{words};
 ghost use Rattle.ob_text_reading.specs.LineReading.{IsFirstOther};
 ghost use Rattle.ob_text_reading.specs.RecordLines.{IsTail};
 ghost use Rattle.ob_text_values_reading.specs.RecordTexts.{lines_behind};
 
 use ob_text_values_reading::lines::split_line;
-use ob_text_words::words::words_of;
-use std::alloc::{AllocError, Global};
+use ob_text_values_reading::words::next_word;
 
 /// The place of the first line whose first byte is neither `S` nor `V`, among those behind a line feed.
-pub(crate) fn first_other(alloc: Global, behind: Option<&[u8]>) -> Result<Option<usize>, AllocError>
+pub(crate) fn first_other(behind: Option<&[u8]>) -> Option<usize>
     requires { length (lines_behind behind) < 2 ^ 64 }
-    ensures below { IfOk result (λ other. IfSome other (λ k. k < length (lines_behind behind.entry))) }
-    ensures place { IfOk result (λ other. MatchOption other
+    ensures below { IfSome result (λ k. k < length (lines_behind behind.entry)) }
+    ensures place { MatchOption result
         (All IsTail (lines_behind behind.entry))
-        (λ k. IsFirstOther (lines_behind behind.entry) k)) }
+        (λ k. IsFirstOther (lines_behind behind.entry) k) }
 {
     let mut left = behind;
     let mut place = 0;
     while let Some(text) = left {
         let (line, rest) = split_line(text);
-        if !is_tail_line(alloc, line)? {
-            return Ok(Some(place));
+        if !is_tail_line(line) {
+            return Some(place);
         }
         place += 1;
         left = rest;
     }
-    Ok(None)
+    None
 }
 
-/// Whether the first byte of a line is `S` or `V`.
-pub fn is_tail_line(alloc: Global, line: &[u8]) -> Result<bool, AllocError>
-    ensures { IfOk result (λ tail. IsTrue tail ↔ IsTail (words line.now)) }
+/// Whether the first byte of a line's first word is `S` or `V`. Its other words are not looked at: a schedule's are as many as its steps.
+pub fn is_tail_line(line: &[u8]) -> bool
+    ensures { IsTrue result ↔ IsTail (words line.now) }
 {
-    let words = words_of(alloc, line)?;
-    Ok(is_tail(&words))
-}
-
-/// Whether the first byte of the first word is `S` or `V`.
-pub fn is_tail(words: &[&[u8]]) -> bool
-    ensures { IsTrue result ↔ IsTail (map (λ w. w.now) words.now) }
-{
-    let Some((first, _rest)) = words.split_first() else {
+    let Some((first, _rest)) = next_word(line) else {
         return false;
     };
     matches!(first.first(), Some(b'S' | b'V'))

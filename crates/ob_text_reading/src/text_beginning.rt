@@ -1,21 +1,20 @@
 //! What a text begins with, where no line of it has been told apart yet.
 
-ghost use Rattle.std.specs.Prelude.{◌≡◌, ◌<◌, ◌≤◌, ◌^◌, ◌∷◌, length, map, take, IfSome, IsTrue};
+ghost use Rattle.std.specs.Prelude.{◌≡◌, ◌<◌, ◌≤◌, ◌^◌, length, take, IfSome, IsTrue};
 ghost use Rattle.std.specs.Char.{is_ascii_digit};
 ghost use Rattle.std.specs.List.{list_all, position};
 ghost use Rattle.ob_scan.specs.Spelling.{number_value};
-ghost use Rattle.ob_text_words.specs.Words.{lines, words};
-ghost use Rattle.ob_text_reading.specs.LineReading.{BeginsLine, BeginsWithId, BeginsWithWord, ends_word};
-ghost use Rattle.ob_text_values_reading.specs.RecordTexts.{lines_behind};
+ghost use Rattle.ob_text_reading.specs.LineReading.{BeginsLine, BeginsWithId, BeginsWithProcess, BeginsWithValue, BeginsWithWord, TakesIds, ends_word};
 
-use ob_text_values_reading::lines::split_line;
+use ob_interface::scalar::{Scalar, ScalarType};
+use ob_text_words::parameters::read_value;
 use wf_history::CallId;
 
 /// The most digits that are read without a look at whether the number grows too large.
 const FEW_DIGITS: usize = 10;
 
-/// The first byte of a text and the call that is named behind it and a space, by a process of one digit below `processes`; with
-/// what stands behind the name.
+/// The first byte of a text and the call that is named behind it and a space, by a process below `processes`; with what stands behind
+/// the name. `None` says nothing here, and below.
 #[inline(always)]
 pub(crate) fn front_of(processes: usize, text: &[u8]) -> Option<(u8, CallId, &[u8])>
     ensures { IfSome result (λ r. BeginsLine processes text.now r.0 r.1 r.2.now) }
@@ -29,17 +28,12 @@ pub(crate) fn front_of(processes: usize, text: &[u8]) -> Option<(u8, CallId, &[u
     Some((*kind, id, rest))
 }
 
-/// The call that a text names first, by a process of one digit below `processes`, and what stands behind its digits.
+/// The call that a text names first, by a process below `processes`, and what stands behind its digits.
 #[inline(always)]
 pub(crate) fn front_id(processes: usize, text: &[u8]) -> Option<(CallId, &[u8])>
     ensures { IfSome result (λ r. BeginsWithId processes text.now r.0 r.1.now) }
 {
-    let (first, behind) = text.split_first()?;
-    let (point, digits) = behind.split_first()?;
-    if !first.is_ascii_digit() || *point != b'.' {
-        return None;
-    }
-    let process = usize::from(*first - b'0');
+    let (process, digits) = front_process(text)?;
     if process >= processes {
         return None;
     }
@@ -48,6 +42,33 @@ pub(crate) fn front_id(processes: usize, text: &[u8]) -> Option<(CallId, &[u8])>
         return None;
     }
     Some((CallId { process, number }, &digits[count..]))
+}
+
+/// The process that a text names up to its first point, and what stands behind the point. Most have one digit.
+#[inline(always)]
+fn front_process(text: &[u8]) -> Option<(usize, &[u8])>
+    ensures { IfSome result (λ r. BeginsWithProcess text.now r.0 r.1.now) }
+{
+    let (first, behind) = text.split_first()?;
+    let (point, rest) = behind.split_first()?;
+    if !first.is_ascii_digit() || *point != b'.' {
+        return front_long_process(text);
+    }
+    let process = usize::from(*first - b'0');
+    Some((process, rest))
+}
+
+/// The same of one that may have more digits.
+#[inline(always)]
+fn front_long_process(text: &[u8]) -> Option<(usize, &[u8])>
+    ensures { IfSome result (λ r. BeginsWithProcess text.now r.0 r.1.now) }
+{
+    let (process, count) = front_number(text);
+    let (point, rest) = text[count..].split_first()?;
+    if count == 0 || *point != b'.' {
+        return None;
+    }
+    Some((process as usize, rest))
 }
 
 /// The number that the first digits of a text spell, few at most, and how many they are.
@@ -88,19 +109,40 @@ fn end_in(text: &[u8]) -> Option<usize>
     text.iter().position(|byte| ends_word(*byte))
 }
 
+/// Whether a byte ends a word. Of most bytes the first test says that they don't.
 fn ends_word(byte: u8) -> bool
     ensures { result ≡ ends_word byte }
 {
-    matches!(byte, b' ' | b'\t' | b'\r' | b'\n')
+    byte <= b' ' && matches!(byte, b' ' | b'\t' | b'\r' | b'\n')
 }
 
-/// The rest of a line that mostly ends here, and the text behind its line feed, if it has one.
+/// The value of a type that a text says behind a space, and what stands behind its word.
 #[inline(always)]
-pub(crate) fn rest_of_line(text: &[u8]) -> (&[u8], Option<&[u8]>)
-    ensures { map words (lines text.now) ≡ words result.0.now ∷ lines_behind result.1 }
+pub(crate) fn front_value(scalar_type: ScalarType, text: &[u8]) -> Option<(Scalar, &[u8])>
+    ensures { IfSome result (λ r. BeginsWithValue scalar_type text.now r.0 r.1.now) }
 {
-    match text.split_first() {
-        Some((b'\n', rest)) => (&text[..0], Some(rest)),
-        _ => split_line(text),
+    let (blank, behind) = text.split_first()?;
+    if *blank != b' ' {
+        return None;
     }
+    let (word, rest) = front_word(behind)?;
+    let value = read_value(scalar_type, word)?;
+    Some((value, rest))
+}
+
+/// What stands behind the first line of a text, where that line names calls with a space between each two of them.
+#[inline(always)]
+pub(crate) fn behind_ids(processes: usize, text: &[u8]) -> Option<&[u8]>
+    ensures { IfSome result (λ rest. TakesIds processes text.now rest.now) }
+{
+    let mut left = text;
+    while let Some((_id, behind)) = front_id(processes, left) {
+        let (ender, rest) = behind.split_first()?;
+        match *ender {
+            b' ' => left = rest,
+            b'\n' => return Some(rest),
+            _ => return None,
+        }
+    }
+    None
 }

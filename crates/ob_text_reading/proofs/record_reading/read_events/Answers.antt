@@ -43,17 +43,17 @@ returns-in_default-3-clause-fault c =
     no_line _ _ _ _ _ _ _ _ _ read (ap lines_behind c.in-Some.is ∙ c.split_line.ensures)
     (rw (c.in_ok-behind.ensures.processes, c.loop-left.invariant.processes, c.in_default-3.is) at c.in_ok-said.ensures)
 
-pub returns-in-Some-4-clause-fault : goal.returns-in-Some-4-clause-fault
-returns-in-Some-4-clause-fault c =
+pub returns-in-Some-first_other-clause-fault : goal.returns-in-Some-first_other-clause-fault
+returns-in-Some-first_other-clause-fault c =
     let read = read_same _ _ _ _ _ _ _ _ c.loop-left.invariant.read (rw c.in_default-2.is at c.in_ok-behind.ensures.taken) in
     order_fails _ _ _ _ _ _ _ _ _ read (ap lines_behind c.in-Some.is ∙ c.split_line.ensures)
-    _ _ (rw (c.in_ok-behind.ensures.processes, c.loop-left.invariant.processes, c.in-Some-3.is, c.in-Order.is) at c.in_ok-said.ensures) (rw c.in-Some-4.is at c.in_ok-other-in-Order.ensures.place)
+    _ _ (rw (c.in_ok-behind.ensures.processes, c.loop-left.invariant.processes, c.in-Some-3.is, c.in-Order.is) at c.in_ok-said.ensures) (rw c.in-Some-first_other.is at c.first_other.ensures.place)
 
 pub returns-in-None-clause-record : goal.returns-in-None-clause-record
 returns-in-None-clause-record c =
     let read = read_same _ _ _ _ _ _ _ _ c.loop-left.invariant.read (rw c.in_default-2.is at c.in_ok-behind.ensures.taken) in
     order_told _ _ _ _ _ _ _ _ _ read (ap lines_behind c.in-Some.is ∙ c.split_line.ensures)
-    _ (rw (c.in_ok-behind.ensures.processes, c.loop-left.invariant.processes, c.in-Some-3.is, c.in-Order.is) at c.in_ok-said.ensures) (rw c.in-None.is at c.in_ok-other-in-Order.ensures.place)
+    _ (rw (c.in_ok-behind.ensures.processes, c.loop-left.invariant.processes, c.in-Some-3.is, c.in-Order.is) at c.in_ok-said.ensures) (rw c.in-None.is at c.first_other.ensures.place)
 
 pub loop-left-preserved-in-Some-2 : goal.loop-left-preserved-in-Some-2
 loop-left-preserved-in-Some-2 c =

@@ -7,13 +7,13 @@ use Rattle.ob_text_reading.proofs.splitting.first_other.Goals as goal
 pub loop-left-init : goal.loop-left-init
 loop-left-init c = no_tail_yet _
 
-pub returns-then-not-branch-clause-below : goal.returns-then-not-branch-clause-below
-returns-then-not-branch-clause-below c = tail_within _ _ _ _ _ c.loop-left.invariant (ap lines_behind c.in-Some.is ∙ c.split_line.ensures)
+pub returns-then-not-is_tail_line-clause-below : goal.returns-then-not-is_tail_line-clause-below
+returns-then-not-is_tail_line-clause-below c = tail_within _ _ _ _ _ c.loop-left.invariant (ap lines_behind c.in-Some.is ∙ c.split_line.ensures)
 
-pub returns-then-not-branch-clause-place : goal.returns-then-not-branch-clause-place
-returns-then-not-branch-clause-place c =
+pub returns-then-not-is_tail_line-clause-place : goal.returns-then-not-is_tail_line-clause-place
+returns-then-not-is_tail_line-clause-place c =
     other_here _ _ _ _ _ c.loop-left.invariant (ap lines_behind c.in-Some.is ∙ c.split_line.ensures)
-    (λ h. false≢true (sym c.if-not-branch.true ∙ c.in_ok-is_tail_line.ensures.1 h))
+    (λ h. false≢true (sym c.if-not-is_tail_line.true ∙ c.is_tail_line.ensures.1 h))
 
 pub overflow_add-place : goal.overflow_add-place
 overflow_add-place c =
@@ -28,7 +28,7 @@ loop-left-smaller c =
 pub loop-left-preserved : goal.loop-left-preserved
 loop-left-preserved c =
     one_tail_more _ _ _ _ _ c.loop-left.invariant (ap lines_behind c.in-Some.is ∙ c.split_line.ensures)
-    (c.in_ok-is_tail_line.ensures.0 c.if-not-branch.false)
+    (c.is_tail_line.ensures.0 c.if-not-is_tail_line.false)
 
 pub returns-clause-place : goal.returns-clause-place
 returns-clause-place c = all_tails _ _ _ c.loop-left.invariant (ap lines_behind c.in_default.is)

@@ -1,8 +1,9 @@
-use Rattle.std.proofs.Common.{◌≡◌, ◌∙◌, ap, map, sym, arith}
-use Rattle.std.proofs.lemmas.List.{length-map}
+use Rattle.std.proofs.Common.{◌≡◌, ◌∷◌, [], ◌∙◌, ap, map, sym, arith}
+use Rattle.std.proofs.lemmas.List.{length-map, map-append}
 use Rattle.ob_checked.specs.CheckedModule.{program_in}
 use Rattle.ob_checked.specs.View.{table_of, variable_of}
-use Rattle.ob_store.specs.View.{value_in}
+use Rattle.ob_meaning.specs.ByPositionStore.{Holds}
+use Rattle.ob_store.specs.View.{value_in, variables_in}
 use Rattle.ob_text_reading.proofs.Openers.{next_own, no_opening, with_held}
 use Rattle.ob_typing.specs.Program.{Program}
 use Rattle.ob_text_reading.proofs.reader.Reader.take_opening.Goals as goal
@@ -25,5 +26,5 @@ returns c =
       early = let here = c.place.ensures in let last = c.place-2.ensures in let low = c.if-place.false in omega (arith, here, last, low);
       own = at;
       says = rw c.in-Some-2.is at c.in_ok-value.ensures;
-      after = with_held _ _ _ c.in_ok-push_value.ensures;
+      after = with_held _ _ _ (ap variables_in c.in_ok-push_value.ensures ∙ map-append (λ v. Holds (value_in v)) c.args.self.values.items (c.in-Some-2.value ∷ []));
     }

@@ -1,14 +1,10 @@
 -- By the first byte of the first word.
-use Rattle.std.proofs.Common.{◌≡◌, ℕ, List, [], ◌∷◌, ◌∙◌, Some, ap, refl, sym}
+use Rattle.std.proofs.Common.{◌≡◌, ◌∙◌, Some, ap, refl, sym}
 use Rattle.std.specs.Option.{option_copied}
 use Rattle.std.specs.List.{slice_get}
 use Rattle.ob_text_reading.specs.RecordLines.{schedule, variable}
-use Rattle.ob_text_reading.proofs.reader.is_tail_line.Goals as goal
-
--- a word with a first byte
-front_of : (word : List ℕ) (byte : ℕ) → slice_get word 0 ≡ Some byte → (more : List ℕ) × (word ≡ byte ∷ more)
-front_of [] byte e = absurd (cc)
-front_of (first ∷ more) byte e = (more, cc)
+use Rattle.ob_text_reading.proofs.Fronts.{front_of}
+use Rattle.ob_text_reading.proofs.splitting.is_tail_line.Goals as goal
 
 pub returns-in-Some-eq83 : goal.returns-in-Some-eq83
 returns-in-Some-eq83 c =
