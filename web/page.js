@@ -107,21 +107,23 @@ function show_fault(text) {
     box.replaceChildren();
     by(id).setAttribute('aria-invalid', String(id in faults));
     if (id in faults) {
-      const { code, said } = parts_of(faults[id].text), pre = document.createElement('pre'), go = document.createElement('button');
+      const { code, said, further } = parts_of(faults[id].text), pre = document.createElement('pre'), go = document.createElement('button');
       pre.textContent = code;
       go.type = 'button';
       go.textContent = `Go to line ${faults[id].line}`;
       go.onclick = () => go_to(id, faults[id]);
-      box.append(pre, ...said.map(it => Object.assign(document.createElement('p'), { textContent: it })), go);
+      const made = (kind, it) => Object.assign(document.createElement(kind), { textContent: it });
+      box.append(pre, ...said.map(it => made('p', it)), ...further.map(it => made('pre', it)), go);
     }
     number_lines(id);
   }
   return place !== null;
 }
-// The line at fault with its mark, and what is said of it.
+// The line at fault with its mark, what is said of it, and what is told of the text with its slip mended.
 function parts_of(text) {
   const lines = text.trimEnd().split('\n'), mark = lines.findIndex(it => /^\s*\^$/.test(it));
-  return { code: lines.slice(0, mark + 1).join('\n'), said: lines.slice(mark + 1) };
+  const mended = lines.findIndex((it, at) => at > mark + 1 && it.startsWith('with ')), end = mended < 0 ? lines.length : mended;
+  return { code: lines.slice(0, mark + 1).join('\n'), said: lines.slice(mark + 1, end), further: mended < 0 ? [] : [lines.slice(end).join('\n')] };
 }
 // A column counts bytes, and a place of a text area counts units of UTF-16.
 function go_to(id, { line, column }) {

@@ -138,7 +138,7 @@ def tabled(row, text, answer, place):
 def explained(name, text, place, sentence):
     """What `explain` shows of a fault at a place of a text with this name: the place by line and column, the line, a mark below the
     column, and the name or keyword there with the sentence. Of a line of over 160 bytes it is what stands near the place. Behind ` / `
-    stands a hint, in a line of its own."""
+    stands a hint, or what is told of the text with a slip mended, in a line of its own."""
     begin = text.rfind(b"\n", 0, place) + 1
     line = text[begin:].split(b"\n")[0]
     left, right = line[: place - begin], line[place - begin :]
@@ -150,7 +150,8 @@ def explained(name, text, place, sentence):
     word = WORD.match(line[place - begin :])
     named = b"`" + word[0] + b"`: " if word else b""
     at = f"{name}:{text.count(10, 0, place) + 1}:{place - begin + 1}"
-    return b"".join(it + b"\n" for it in (at.encode(), seen, below + b"^", named + sentence.replace(" / hint: ", "\nhint: ").encode()))
+    said = sentence.replace(" / hint: ", "\nhint: ").replace(" / with ", "\nwith ")
+    return b"".join(it + b"\n" for it in (at.encode(), seen, below + b"^", named + said.encode()))
 
 
 def answered(row, answer):

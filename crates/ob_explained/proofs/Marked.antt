@@ -1,5 +1,5 @@
 -- The words at which remarks on calls stand.
-use Rattle.std.proofs.Common.{◌≡◌, ◌⊎◌, inl, inr, ℕ, List, Option, Result, IfOk, IfSome, arith, subst, sym}
+use Rattle.std.proofs.Common.{◌⊎◌, inl, inr, ℕ, List, Option, Result, IfOk, IfSome, arith}
 use Rattle.std.proofs.lemmas.Option.{IfSome_then}
 use Rattle.std.proofs.lemmas.Result.{IfOk-weaker}
 use Rattle.ob_messages.specs.declared.remark.Remark as Declared

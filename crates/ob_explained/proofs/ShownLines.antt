@@ -8,15 +8,15 @@ use Rattle.std.proofs.lemmas.Option.{slice_get-map, slice_get_within}
 use Rattle.std.specs.Io.BufRead.{ends_with_byte}
 use Rattle.std.specs.List.{onto_first}
 use Rattle.std.specs.Prelude.{slice_index}
-use Rattle.ob_text_words.specs.Words.{Word, lines, words}
+use Rattle.ob_text_words.specs.Words.{lines, words}
 use Rattle.ob_carry.specs.Carried.{Entry}
 use Rattle.ob_text_values_reading.proofs.SaidLines.{said_on, said_over}
 use Rattle.ob_text_values_reading.specs.Comments.{is_comment, said}
-use Rattle.ob_text_values_reading.specs.RecordTexts.{IsTitle, Line, record_lines}
+use Rattle.ob_text_values_reading.specs.RecordTexts.{Line, record_lines}
 use Rattle.ob_text_values_reading.specs.ReadValues as Told
 use Rattle.ob_text_values_reading.specs.ReadValues.{AreTold, AreValuesIn, AreValuesOf}
 use Rattle.ob_text_values_reading.specs.Variables.{BeginsWith, IsVariableLine}
-use Rattle.ob_explained.specs.ValueLines.{EachValueHasItsLine, IsToldInItsLine, lines_from, tells_value, value_lines}
+use Rattle.ob_explained.specs.ValueLines.{EachValueHasItsLine, lines_from, tells_value}
 use Rattle.ob_explained.proofs.ValueLines.{begins_so, tells}
 
 -- among these lines, the one of the value at a position, by its number where the first line has this one

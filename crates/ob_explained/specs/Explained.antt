@@ -1,13 +1,14 @@
 -- What is shown of a fault that has a place in a text.
-use Rattle.std.specs.Prelude.{◌≡◌, ℕ, List, Option, None, Some, option_map}
+use Rattle.std.specs.Prelude.{◌≡◌, ℕ, List, ◌++◌, Option, None, Some, option_map}
 use Rattle.ob_scan.specs.declared.fault.ScanFault.TheVariants as Scan
 use Rattle.ob_messages.specs.Explanations.{explanation}
-use Rattle.ob_diagnosis.specs.Remarks.{IsCheckRemark, IsParseRemark, IsScanRemark}
 use Rattle.ob_messages.specs.Remarks.{Remark}
 use Rattle.ob_explained.specs.NumberFaults.{budget_explanation, long_code_explanation, long_text_explanation, processes_explanation}
 use Rattle.ob_explained.specs.CallRemarks.{IsScriptRemark}
 use Rattle.ob_check.specs.declared.texts.TextFault.{TextFault}
 use Rattle.ob_check.specs.declared.texts.TextFault.TheVariants as Texts
+use Rattle.ob_slips.specs.Behind.{IsTold, own_stage}
+use Rattle.ob_slips.specs.Remarks.{IsTextRemark}
 use Rattle.ob_object_compile.specs.declared.compiling.CompileFault.{CompileFault}
 use Rattle.ob_object_compile.specs.declared.compiling.CompileFault.TheVariants as Modules
 use Rattle.ob_object_calls.specs.declared.sequential.SeqTextFault.{SeqTextFault}
@@ -15,18 +16,18 @@ use Rattle.ob_object_calls.specs.declared.sequential.SeqTextFault.TheVariants as
 use Rattle.ob_text_scripts.specs.declared.script.ScriptFault.{ScriptFault}
 use Rattle.ob_explained.specs.Openings.{IsOpenExplanation}
 
--- the remark on a fault of a module's text; none for want of memory
-abbrev pub IsTextRemark : List ℕ → TextFault → Option Remark → Type 0
-IsTextRemark text (Texts.Scan e) remark = IsScanRemark text e remark
-IsTextRemark text (Texts.Parse e) remark = IsParseRemark text e remark
-IsTextRemark text (Texts.Check e) remark = IsCheckRemark text e remark
-IsTextRemark text Texts.NoMemory remark = remark ≡ None
+-- What is shown of a remark on a fault of the text of this name: the fault at its place, as by itself, and what is told behind it where
+-- it comes of a slip. Of none nothing is shown.
+abbrev pub IsShownRemark : (name text : List ℕ) → TextFault → Option Remark → Option (List ℕ) → Type 0
+IsShownRemark name text fault None shown = shown ≡ None
+IsShownRemark name text fault (Some remark) shown =
+    (behind : List ℕ) × IsTold (own_stage name text) fault behind × (shown ≡ Some (explanation name text remark ++ behind))
 
 -- at its place in the text of this name
 pub record IsPlacedExplanation (name text : List ℕ) (fault : TextFault) (shown : Option (List ℕ)) : Type 0 where
   pub remark : Option Remark
   pub remarked : IsTextRemark text fault remark
-  pub shows : shown ≡ option_map (explanation name text) remark
+  pub shows : IsShownRemark name text fault remark shown
 
 -- of the text of this name; that it is too long is told without a place
 abbrev pub IsTextExplanation : (name text : List ℕ) → TextFault → Option (List ℕ) → Type 0

@@ -3,7 +3,7 @@
 ghost use Rattle.std.specs.Prelude.{◌≡◌, IfOk, option_map, string_bytes};
 ghost use Rattle.ob_messages.specs.Explanations.{explanation};
 ghost use Rattle.ob_messages.specs.Remarks.{remark_of};
-ghost use Rattle.ob_explained.specs.Explained.{IsCallsExplanation, IsModuleExplanation, IsObjectExplanation, IsTextExplanation, IsTextRemark};
+ghost use Rattle.ob_explained.specs.Explained.{IsCallsExplanation, IsModuleExplanation, IsObjectExplanation, IsPlacedExplanation, IsTextExplanation};
 
 use crate::call_remark::calls_remark;
 use crate::number_fault::{
@@ -11,12 +11,12 @@ use crate::number_fault::{
 };
 use crate::opening::open_explanation;
 use ob_check::TextFault;
-use ob_diagnosis::remark::{check_remark, parse_remark, scan_remark};
 use ob_messages::explanation::explanation;
 use ob_messages::remark::Remark;
 use ob_object_calls::SeqTextFault;
 use ob_object_compile::CompileFault;
 use ob_scan::ScanFault;
+use ob_slips::{text_remark, told_behind};
 use std::alloc::{AllocError, Global};
 
 /// The processes that make the calls of a script one at a time.
@@ -98,19 +98,27 @@ fn text_explanation(
 {
     match fault {
         TextFault::Scan(ScanFault::TooLong) => Ok(Some(long_text_explanation(alloc)?)),
-        fault => shown(alloc, name, text, text_remark(alloc, text, fault)?),
+        fault => placed_explanation(alloc, name, text, fault),
     }
 }
 
-/// The remark on a fault of a module's text; `None` for want of memory.
-fn text_remark(alloc: Global, text: &[u8], fault: TextFault) -> Result<Option<Remark>, AllocError>
-    ensures { IfOk result (λ remark. IsTextRemark text.now fault (option_map remark_of remark)) }
+/// The same at its place, and what is told behind it where it comes of a slip.
+fn placed_explanation(
+    alloc: Global,
+    name: &str,
+    text: &[u8],
+    fault: TextFault,
+) -> Result<Option<String>, AllocError>
+    ensures { IfOk result (λ shown. IsPlacedExplanation name.now text.now fault (option_map string_bytes shown)) }
 {
-    match fault {
-        TextFault::Scan(fault) => scan_remark(alloc, text, fault),
-        TextFault::Parse(fault) => parse_remark(alloc, text, fault),
-        TextFault::Check(fault) => check_remark(alloc, text, fault),
-        TextFault::NoMemory => Ok(None),
+    match text_remark(alloc, text, fault)? {
+        Some(remark) => {
+            let mut shown = explanation(alloc, name, text, &remark)?;
+            let behind = told_behind(alloc, name, text, fault)?;
+            shown.push_str(behind.as_str())?;
+            Ok(Some(shown))
+        }
+        None => Ok(None),
     }
 }
 

@@ -1,4 +1,4 @@
-use Rattle.std.proofs.Common.{List, Option, subst, option_map}
+use Rattle.std.proofs.Common.{List, subst, option_map}
 use Rattle.std.proofs.lemmas.Result.{IfOk-weaker}
 use Rattle.ob_checked.specs.CheckedModule.{program_in}
 use Rattle.ob_messages.specs.Remarks.{remark_of}

@@ -1,4 +1,4 @@
-use Rattle.std.proofs.Common.{◌+◌, ◌-◌, suc, ap, ◌∙◌}
+use Rattle.std.proofs.Common.{◌+◌, suc, ap, ◌∙◌}
 use Rattle.std.proofs.lemmas.List.{take_rest}
 use Rattle.ob_explained.specs.ScriptPlaces.{word_place}
 use Rattle.ob_explained.proofs.WordPlaces.{behind_word_place, told_at}

@@ -1,4 +1,4 @@
-use Rattle.std.proofs.Common.{◌≡◌, ◌+◌, ◌-◌, ℕ, List, suc, ap, drop, length, take, ◌∙◌}
+use Rattle.std.proofs.Common.{◌+◌, ◌-◌, ℕ, List, suc, ap, drop, length, take, ◌∙◌}
 use Rattle.std.proofs.lemmas.List.{take_rest}
 use Rattle.ob_explained.specs.ScriptPlaces.{first_end, word_place}
 use Rattle.ob_explained.proofs.WordPlaces.{told_at, value_word_place}

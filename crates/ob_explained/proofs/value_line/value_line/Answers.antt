@@ -1,11 +1,11 @@
-use Rattle.std.proofs.Common.{◌≡◌, ◌∙◌, ◌≤◌, ◌+◌, ◌-◌, ℕ, suc, rules, tests, arith, ◌==◌, List, ◌∷◌, [], ◌++◌, length, map, drop, slice_get, Some, ap, sym, true, false, zero}
+use Rattle.std.proofs.Common.{◌≡◌, ◌∙◌, ◌≤◌, ◌+◌, ◌-◌, ℕ, suc, rules, tests, arith, ◌==◌, List, length, map, drop, slice_get, Some, ap, sym, true, false}
 use Rattle.std.proofs.lemmas.Iterator.Consumers.{YieldsList-at, YieldsList-from_enumerate, YieldsList-turn, YieldsList-end}
 use Rattle.std.proofs.lemmas.Iterator.Splits.{YieldsList-from_slice_split}
 use Rattle.std.proofs.lemmas.List.{length_push, length-map, drop_all}
 use Rattle.std.proofs.lemmas.List.FromFn.{length-enumerate_from}
 use Rattle.ob_text_words.specs.Words.{Word, lines, words}
 use Rattle.ob_text_words.proofs.Reading.{line_at}
-use Rattle.ob_explained.specs.ValueLines.{lines_from, tells_value, value_lines}
+use Rattle.ob_explained.specs.ValueLines.{lines_from, tells_value}
 use Rattle.ob_explained.proofs.ValueLines.{first_told, later_told, not_told}
 use Rattle.ob_explained.proofs.value_line.value_line.Goals as goal
 

@@ -1,0 +1,4 @@
+pub mod Behind
+pub mod Mendings
+pub mod Remarks
+pub mod Slips

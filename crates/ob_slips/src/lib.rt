@@ -1,0 +1,15 @@
+//! Slips of one token in a module's text, and the faults behind them: those that the text has where the slips before them are mended.
+//!
+//! One may rely on a fault that is told being that of the mended text, at its place in the module's own text. Which slips are known,
+//! and the words, may change without asking.
+#![tactic(auto)]
+
+pub mod behind;
+pub mod mending;
+pub mod remark;
+pub mod slip;
+pub mod stage;
+mod verdict;
+
+pub use behind::told_behind;
+pub use remark::text_remark;

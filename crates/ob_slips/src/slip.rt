@@ -1,0 +1,194 @@
+//! Which slips are known, by what stands at a fault of a text.
+
+ghost use Rattle.std.specs.Prelude.{◌≡◌};
+ghost use Rattle.std.specs.Char.{is_ascii_uppercase};
+ghost use Rattle.std.specs.List.{list_all};
+ghost use Rattle.ob_slips.specs.Slips.{begins_part, behind_line_feed, is_further, is_in_capitals, is_misspelt, is_off, is_small_keyword, mending_at, mending_of, meant_for_byte, meant_for_pair, meant_for_token};
+
+use crate::mending::{Meant, Mending, origin};
+use ob_check::TextFault;
+use ob_messages::place::{halves, shown_place};
+use ob_messages::words::{is_same, is_same_in_any_case, word_at};
+use ob_parser::parser::ParseFault;
+use ob_scan::ScanFault;
+
+/// The mending of the slip from which a fault of a text comes, where it is one that is known.
+pub fn mending_of(text: &[u8], fault: TextFault) -> Option<Mending>
+    ensures { result ≡ mending_of text.now fault }
+{
+    match fault {
+        TextFault::Scan(ScanFault::StrayByte(place)) => {
+            let (_, from) = halves(text, place);
+            mending_at(place, meant_for_byte(from))
+        }
+        TextFault::Parse(ParseFault::Unexpected(place)) => {
+            let (before, from) = halves(text, place);
+            match meant_for_pair(before, from) {
+                Some(meant) => mending_at(place.saturating_sub(1), Some(meant)),
+                None => mending_at(place, meant_for_token(before, from)),
+            }
+        }
+        _ => None,
+    }
+}
+
+/// The mending at a place, where something is meant there.
+fn mending_at(place: usize, meant: Option<Meant>) -> Option<Mending>
+    ensures { result ≡ mending_at place meant }
+{
+    match meant {
+        Some(meant) => Some(Mending { place, meant }),
+        None => None,
+    }
+}
+
+/// What is meant where a byte begins no token.
+fn meant_for_byte(from: &[u8]) -> Option<Meant>
+    ensures { result ≡ meant_for_byte from.now }
+{
+    if from.starts_with(b"!=") {
+        Some(Meant::NotEqual)
+    } else if from.starts_with(b"!") {
+        Some(Meant::Not)
+    } else if from.starts_with(b"||") {
+        Some(Meant::Or)
+    } else if from.starts_with(b"%") {
+        Some(Meant::Mod)
+    } else if from.starts_with(b"_") {
+        Some(Meant::Letter)
+    } else if from.starts_with(b"//") || from.starts_with(b"/*") {
+        None
+    } else if from.starts_with(b"/") {
+        Some(Meant::Div)
+    } else {
+        None
+    }
+}
+
+/// What is meant where a token can't stand that is one symbol with the byte before it.
+fn meant_for_pair(before: &[u8], from: &[u8]) -> Option<Meant>
+    ensures { result ≡ meant_for_pair before.now from.now }
+{
+    if before.ends_with(b"<") && from.starts_with(b">") {
+        Some(Meant::Unequal)
+    } else if from.starts_with(b">=") || from.starts_with(b"<=") {
+        None
+    } else if before.ends_with(b"=") && from.starts_with(b">") {
+        Some(Meant::AtLeast)
+    } else if before.ends_with(b"=") && from.starts_with(b"<") {
+        Some(Meant::AtMost)
+    } else {
+        None
+    }
+}
+
+/// What is meant where a token can't stand, between these bytes.
+fn meant_for_token(before: &[u8], from: &[u8]) -> Option<Meant>
+    ensures { result ≡ meant_for_token before.now from.now }
+{
+    if before.ends_with(b"=") && from.starts_with(b"=") {
+        Some(Meant::OneEqual)
+    } else if before.ends_with(b"&") && from.starts_with(b"&") {
+        Some(Meant::OneAnd)
+    } else if from.starts_with(b"=") {
+        Some(Meant::Assign)
+    } else if from.starts_with(b"<-") {
+        Some(Meant::Arrow)
+    } else if !from.is_empty() && behind_line_feed(before) && !is_misspelt(word_at(from)) {
+        Some(Meant::Semicolon)
+    } else {
+        None
+    }
+}
+
+/// Whether a line feed stands among the blanks at the end.
+fn behind_line_feed(bytes: &[u8]) -> bool
+    ensures { result ≡ behind_line_feed bytes.now }
+{
+    let (_, blanks) = halves(bytes, shown_place(bytes, bytes.len()));
+    blanks.contains(&b'\n')
+}
+
+/// Whether a word that can't stand there may be meant to be a keyword: it is one but for small letters, or all of capital letters.
+fn is_misspelt(word: &[u8]) -> bool
+    ensures { result ≡ is_misspelt word.now }
+{
+    !begins_part(word) && (is_small_keyword(word) || is_in_capitals(word))
+}
+
+/// Whether a word has several letters, and all of them are capital.
+fn is_in_capitals(word: &[u8]) -> bool
+    ensures { result ≡ is_in_capitals word.now }
+{
+    word.len() > 1 && are_capital(word)
+}
+
+/// Whether all letters are capital.
+fn are_capital(word: &[u8]) -> bool
+    ensures { result ≡ list_all is_ascii_uppercase word.now }
+{
+    word.iter().all(|byte| is_capital(*byte))
+}
+
+fn is_capital(byte: u8) -> bool
+    ensures { result ≡ is_ascii_uppercase byte }
+{
+    byte.is_ascii_uppercase()
+}
+
+/// Whether a word is a keyword before which a `;` may be missing.
+fn begins_part(word: &[u8]) -> bool
+    ensures { result ≡ begins_part word.now }
+{
+    is_same(word, b"IF")
+        || is_same(word, b"WHILE")
+        || is_same(word, b"REPEAT")
+        || is_same(word, b"CONST")
+        || is_same(word, b"TYPE")
+        || is_same(word, b"VAR")
+        || is_same(word, b"PROCEDURE")
+        || is_same(word, b"BEGIN")
+        || is_same(word, b"END")
+}
+
+/// Whether a word is a keyword that ends or begins a line, in any letters.
+fn is_small_keyword(word: &[u8]) -> bool
+    ensures { result ≡ is_small_keyword word.now }
+{
+    is_same_in_any_case(word, b"IF")
+        || is_same_in_any_case(word, b"WHILE")
+        || is_same_in_any_case(word, b"REPEAT")
+        || is_same_in_any_case(word, b"CONST")
+        || is_same_in_any_case(word, b"TYPE")
+        || is_same_in_any_case(word, b"VAR")
+        || is_same_in_any_case(word, b"PROCEDURE")
+        || is_same_in_any_case(word, b"BEGIN")
+        || is_same_in_any_case(word, b"END")
+        || is_same_in_any_case(word, b"ELSE")
+        || is_same_in_any_case(word, b"ELSIF")
+        || is_same_in_any_case(word, b"UNTIL")
+}
+
+/// Whether a fault of the text with a mending is another one than that which was to be mended.
+pub fn is_further(mending: Mending, fault: TextFault) -> bool
+    ensures { result ≡ is_further mending fault }
+{
+    match fault {
+        TextFault::Scan(ScanFault::StrayByte(place)) => is_off(mending, place),
+        TextFault::Scan(ScanFault::NumberTooLarge(place)) => is_off(mending, place),
+        TextFault::Scan(ScanFault::OpenComment(place)) => is_off(mending, place),
+        TextFault::Scan(ScanFault::NameTooLong(place)) => is_off(mending, place),
+        TextFault::Parse(ParseFault::Unexpected(place)) => is_off(mending, place),
+        TextFault::Parse(ParseFault::TooDeep(place)) => is_off(mending, place),
+        TextFault::Parse(ParseFault::NameDiffers(place)) => is_off(mending, place),
+        TextFault::Check(_) => true,
+        _ => false,
+    }
+}
+
+/// Whether a place of the text with a mending stands elsewhere than this.
+fn is_off(mending: Mending, place: usize) -> bool
+    ensures { result ≡ is_off mending place }
+{
+    origin(mending, place) != mending.place
+}
