@@ -87,6 +87,7 @@ long_record module_name part whole record_name text e a is told =
     let here = subst (λ (x : VerifyFault). IsRecordFaultShown module_name part record_name text x a) is told in
     subst (λ (x : VerifyFault). IsRecordFaultShown module_name whole record_name text x a) (sym is) (here.0, here.1, here.2)
 
+-- the fault of the beginning is that of the whole text, and so is what is shown of it
 record_wrong_both : {E : Type 0} (module_name : Text) (part : List ℕ) (record_name : Text) (text : List ℕ) (e : VerifyFault) (result : Result Answer E)
     → IfOk result (λ a. IsRecordFaultShown module_name part record_name text e a) → IfOk result (λ _. e ≢ Verify.NoMemory)
     → IsVerifyFault part text e → Verifies.TellsMemoryApart e → (Verifies.IsNumbered e → IsVerified part text → ⊥)
@@ -99,7 +100,7 @@ record_wrong_both module_name part record_name text e (Ok a) told known stands a
     (record_refused part text e known stands apart none too_long whole is, shown)
 record_wrong_both module_name part record_name text e (Err x) told known stands apart none too_long = tt
 
--- what is shown of the fault of a record: its fault is that of the whole text, and so is what is shown of it
+-- so it is explained, with traps and without
 module _ {E : Type 0} (module_name : Text) (part : List ℕ) (record_name : Text) (text : List ℕ) (e : VerifyFault) (result : Result Answer E)
     (told : IfOk result (λ a. IsRecordFaultShown module_name part record_name text e a)) (known : IfOk result (λ _. e ≢ Verify.NoMemory))
     (stands : IsVerifyFault part text e) (apart : Verifies.TellsMemoryApart e) (none : Verifies.IsNumbered e → IsVerified part text → ⊥)

@@ -1,5 +1,5 @@
 -- The calls of an order as they began: they fit the module, and each of a legal order did begin.
-use Rattle.std.proofs.Common.{◌≡◌, ℕ, zero, suc, List, [], ◌∷◌, All, Some, refl, slice_get, subst}
+use Rattle.std.proofs.Common.{◌≡◌, ℕ, zero, suc, List, [], ◌∷◌, ◌++◌, All, Some, ap, length, refl, slice_get, subst}
 use Rattle.std.proofs.lemmas.List.Elements.{All-cons, All-nil}
 use Rattle.std.proofs.lemmas.Option.{same_Some}
 use Rattle.std.specs.List.{AllZip, Contains}
@@ -24,6 +24,22 @@ use Rattle.wf_history.proofs.Positions.{place_of}
 use Rattle.wf_history.specs.History.{Event}
 use Rattle.wf_history.specs.Legal.{HasBegun, OneAtATime, none, more}
 use Rattle.wf_history.specs.declared.event.CallId.{CallId}
+
+module _ (history : List (Event ObjectCall Reply)) where
+  -- there are as many calls as names
+  pub begun_long : (order : List CallId) (calls : List ObjectCall) → AreBegun history order calls → length order ≡ length calls
+  begun_long [] [] begun = refl
+  begun_long [] (call ∷ calls) begun = absurd begun
+  begun_long (id ∷ order) [] begun = absurd begun
+  begun_long (id ∷ order) (call ∷ calls) begun = ap suc (begun_long order calls begun.1)
+
+  -- one more
+  pub begun_push : (order : List CallId) (calls : List ObjectCall) (id : CallId) (call : ObjectCall) → AreBegun history order calls →
+      HasBegun history id call → AreBegun history (order ++ id ∷ []) (calls ++ call ∷ [])
+  begun_push [] [] id call begun now = (now, tt)
+  begun_push [] (other ∷ calls) id call begun now = absurd begun
+  begun_push (other ∷ order) [] id call begun now = absurd begun
+  begun_push (other ∷ order) (made ∷ calls) id call begun now = (begun.0, begun_push order calls id call begun.1 now)
 
 -- each of them fits, where each call that began does
 pub begun_fit : (program : Program) (history : List (Event ObjectCall Reply)) → BegunFit (Fits program) history →

@@ -1,12 +1,12 @@
 use Rattle.std.proofs.Common.{◌∙◌, ap, length, map, refl, sym}
 use Rattle.std.proofs.lemmas.List.{length-map}
-use Rattle.std.proofs.lemmas.List.Elements.{length_all_zip}
 use Rattle.std.proofs.lemmas.Result.{err_from_is_err_and}
 use Rattle.ob_checked.specs.CheckedModule.{program_in}
 use Rattle.ob_mean.specs.View.{call_of}
 use Rattle.ob_object_calls.proofs.Records.{no_opening, no_record}
 use Rattle.ob_store.specs.View.{state_of}
-use Rattle.ob_explained_traps.proofs.Begun.{all_begun}
+use Rattle.wf_history.specs.View.{event_of}
+use Rattle.ob_explained_traps.proofs.Begun.{all_begun, begun_long}
 use Rattle.ob_explained_traps.proofs.record_traps.told_of.Goals as goal
 
 pub returns-in_err-read-clause-lawful : goal.returns-in_err-read-clause-lawful
@@ -35,7 +35,7 @@ returns-in_err-told_from-clause-lawful c =
 pub told_from-requires : goal.told_from-requires
 told_from-requires c =
     ap length (c.deref-3.ensures.value ∙ sym c.deref.ensures.value)
-    ∙ length_all_zip _ c.deref.result.now (map call_of c.in_ok-calls.calls.items) c.in_ok-calls.ensures.calls
+    ∙ begun_long (map event_of c.events.result.now) c.deref.result.now (map call_of c.in_ok-calls.calls.items) c.in_ok-calls.ensures.calls
     ∙ length-map c.in_ok-calls.calls.items call_of ∙ sym (ap length c.deref-2.ensures.value)
 
 pub returns-clause-told : goal.returns-clause-told
