@@ -2,7 +2,7 @@
 use Rattle.std.proofs.Common.{◌≡◌, ℕ, zero, suc, List, [], ◌∷◌, ◌++◌, All, Some, ap, length, refl, slice_get, subst}
 use Rattle.std.proofs.lemmas.List.Elements.{All-cons, All-nil}
 use Rattle.std.proofs.lemmas.Option.{same_Some}
-use Rattle.std.specs.List.{AllZip, Contains}
+use Rattle.std.specs.List.{Contains}
 use Rattle.ob_checked.specs.Exports.{signatures}
 use Rattle.ob_code_correct.proofs.CodeLaw.{fitting_signed}
 use Rattle.ob_code_correct.specs.Carried.{BegunFit}
@@ -10,7 +10,6 @@ use Rattle.ob_code_correct.specs.Compiled.{Fits}
 use Rattle.ob_explained_traps.specs.RecordTraps.{AreBegun, IsUnbegun}
 use Rattle.ob_interface.specs.Call.{ObjectCall, Reply}
 use Rattle.ob_interface.specs.Export.{CallFits}
-use Rattle.ob_meaning.specs.ByPositionStore.{Activation}
 use Rattle.ob_object_calls.specs.Beginnings.{BeginsPlaced}
 use Rattle.ob_object_calls.specs.Verified.{IsLegalRecord}
 use Rattle.ob_object_calls.specs.VerifyFaults.{of_order}

@@ -5,7 +5,7 @@ ghost use Rattle.ob_explained.specs.Sources.{source_of};
 ghost use Rattle.ob_explained_traps.specs.CallLines.{call_lines};
 ghost use Rattle.ob_explained_traps.specs.ScriptTraps.{IsTrapsText, told_of_calls};
 ghost use Rattle.ob_object_compile.specs.Asked.{TellsAtOnce};
-ghost use Rattle.ob_object_compile.specs.View.{asked_of, object_in};
+ghost use Rattle.ob_object_compile.specs.View.{asked_of};
 ghost use Rattle.ob_object_calls.specs.SequentialRun.{IsSeqRefusal};
 
 use crate::call_lines::call_lines;
