@@ -32,7 +32,7 @@ use Rattle.ob_answer_searches.specs.HistoryPictureAnswers.{IsHistoryPictureAnswe
 use Rattle.ob_text_scripts.specs.Chance.{IsOfSteps}
 use Rattle.ob_text_scripts.specs.Finish.{IsFinished}
 use Rattle.ob_command.specs.CommandLine.{CallsRequest, ChanceRequest, Request, RunRequest, SeqRequest, Text, default_most, Check, Listing, Seq, Live, Run, RunTree, RunSteps, RunFinished, RunByChance, Serve, Draw, DrawHistory, DrawRecord, Outcomes, State, Verify, Order, request}
-use Rattle.ob_command.specs.CommandLine.{Explain, ExplainAlways, ExplainCalls, ExplainFault, ExplainTraps, ExplainRun, ExplainRecord, ExplainHistory, Bound, Help, Version, Unclear}
+use Rattle.ob_command.specs.CommandLine.{Explain, ExplainAlways, ExplainCalls, ExplainFault, ExplainTraps, ExplainRun, ExplainRecord, ExplainRecordTraps, ExplainHistory, Bound, Help, Version, Unclear}
 use Rattle.ob_command.specs.Commands.{IsMistakeTextOf, calls_request_of, chance_request_of, run_request_of}
 use Rattle.ob_command.specs.declared.command.CallNumbers.{CallNumbers}
 use Rattle.ob_command.specs.declared.command.CallsCommand.{CallsCommand}
@@ -47,7 +47,7 @@ use Rattle.ob_answer.specs.declared.printed_forms.Product.{Product}
 use Rattle.ob_answer.specs.declared.printed_forms.Product.TheVariants as Products
 use Rattle.ob_answer_explained.specs.Beginnings.{WithBeginning}
 use Rattle.ob_answer_explained.specs.CommandTexts.{CallsTexts, RunTexts, asked_by, calls_texts, first_or_none, record_file, run_texts_by}
-use Rattle.ob_answer_explained.specs.Explains.{AreTrapsExplained, IsCallsExplained, IsModuleExplained, IsRecordExplained, IsRunExplained, IsValuesFaultTold}
+use Rattle.ob_answer_explained.specs.Explains.{AreRecordTrapsExplained, AreTrapsExplained, IsCallsExplained, IsModuleExplained, IsRecordExplained, IsRunExplained, IsValuesFaultTold}
 use Rattle.ob_answer_searches.specs.ExplainedOrders.{IsHistoryExplained}
 use Rattle.ob_answer_searches.specs.Orders.{IsProductAnswer}
 use Rattle.ob_answer_files.specs.Printed.{IsPrinted, IsPrintedBeside, IsRefused, IsTextAnswer}
@@ -294,6 +294,7 @@ files_of (ExplainTraps calls) = files_of_calls calls
 files_of (ExplainRun run) = files_of_run run
 files_of (ExplainAlways asked) = files_of_calls asked.calls
 files_of (ExplainRecord module_name record_name) = module_name ∷ record_name ∷ []
+files_of (ExplainRecordTraps module_name record_name) = module_name ∷ record_name ∷ []
 files_of (ExplainHistory module_name history_name) = module_name ∷ history_name ∷ []
 files_of (Bound module_name processes budget) = module_name ∷ []
 files_of _ = []
@@ -327,6 +328,8 @@ IsMade (ExplainRun run) bytes answer = IsRunMade Products.Explanation run bytes 
 IsMade (ExplainAlways asked) bytes answer = IsAllRunsMade (Explained asked.name) asked.calls bytes answer
 IsMade (ExplainRecord module_name record_name) (module_bytes ∷ record_bytes ∷ []) answer =
     IsRecordExplained module_name module_bytes record_name record_bytes answer
+IsMade (ExplainRecordTraps module_name record_name) (module_bytes ∷ record_bytes ∷ []) answer =
+    AreRecordTrapsExplained module_name module_bytes record_name record_bytes answer
 IsMade (ExplainHistory module_name history_name) (module_bytes ∷ history_bytes ∷ []) answer =
     IsHistoryExplained module_name module_bytes history_name history_bytes answer
 IsMade (Bound module_name processes budget) (module_bytes ∷ []) answer = IsBoundAnswer module_bytes processes budget answer

@@ -14,6 +14,7 @@ use crate::all_runs::{AllRuns, obey_all_runs};
 use crate::command_answers::{obey_calls, obey_run, obey_serve};
 use crate::explaining::{
     answer_fault, obey_explain_history, obey_explain_module, obey_explain_record,
+    obey_explain_record_traps,
 };
 use crate::printed_forms::{CallsProduct, Product};
 use crate::schedule_answers::{obey_chance, obey_finished};
@@ -177,6 +178,10 @@ fn reads_input_twice(command: Command<'_>) -> bool
             module_name,
             record_name,
         } => are_two_inputs(&[module_name, record_name]),
+        Command::ExplainRecordTraps {
+            module_name,
+            record_name,
+        } => are_two_inputs(&[module_name, record_name]),
         Command::ExplainHistory {
             module_name,
             history_name,
@@ -282,6 +287,10 @@ fn obey<K: RandomSource, F: Files>(
             module_name,
             record_name,
         } => obey_explain_record(alloc, module_name, record_name, files),
+        Command::ExplainRecordTraps {
+            module_name,
+            record_name,
+        } => obey_explain_record_traps(alloc, module_name, record_name, files),
         Command::ExplainHistory {
             module_name,
             history_name,

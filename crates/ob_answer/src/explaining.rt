@@ -3,11 +3,12 @@
 ghost use Rattle.std.specs.Prelude.{ℕ, IfOk};
 ghost use Rattle.ob_answer.specs.Answers.{IsObeyed};
 ghost use Rattle.ob_answer_files.specs.Printed.{IsPrinted};
-ghost use Rattle.ob_command.specs.CommandLine.{Explain, ExplainHistory, ExplainRecord};
+ghost use Rattle.ob_command.specs.CommandLine.{Explain, ExplainHistory, ExplainRecord, ExplainRecordTraps};
 ghost use Rattle.ob_fault_pages.specs.Pages.{page_text};
 
 use ob_answer_explained::explaining::explain_module;
 use ob_answer_explained::explaining_runs::explain_record;
+use ob_answer_explained::explaining_traps::explain_record_traps;
 use ob_answer_files::answered::Answer;
 use ob_answer_files::files::{FileFault, Files};
 use ob_answer_files::reading::{MODULE_BYTES, TwoFiles, read_two, unreadable};
@@ -51,6 +52,27 @@ pub(crate) fn obey_explain_record<F: Files>(
 {
     match read_two(alloc, module_name, record_name, files)? {
         TwoFiles::Read { module, second } => explain_record(
+            alloc,
+            module_name,
+            module.as_slice(),
+            record_name,
+            second.as_slice(),
+        ),
+        TwoFiles::Unread(answer) => Ok(answer),
+    }
+}
+
+/// The answer to `explain` on the traps of a record, of the names of its files.
+pub(crate) fn obey_explain_record_traps<F: Files>(
+    alloc: Global,
+    module_name: &str,
+    record_name: &str,
+    files: &mut F,
+) -> Result<Answer, NoMemory>
+    ensures { IfOk result (λ a. IsObeyed F.reads (ExplainRecordTraps module_name.now record_name.now) files.old a files.new) }
+{
+    match read_two(alloc, module_name, record_name, files)? {
+        TwoFiles::Read { module, second } => explain_record_traps(
             alloc,
             module_name,
             module.as_slice(),

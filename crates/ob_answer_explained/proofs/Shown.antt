@@ -1,11 +1,13 @@
 -- Faults that are shown, of the beginning of a module's text.
 use Rattle.std.proofs.Common.{◌≡◌, ◌≢◌, ◌<◌, ℕ, List, Result, Ok, Err, IfOk, length, subst, sym}
+use Rattle.std.proofs.lemmas.Result.{IfOk-weaker}
 use Rattle.ob_answer_explained.specs.CommandTexts.{CallsTexts, RunTexts, calls_of_text, of_text, run_of_text}
-use Rattle.ob_answer_explained.specs.Explains.{AreTrapsExplained, IsCallsFaultShown, IsExplained, IsModuleFaultShown, IsRecordExplained, IsRecordFaultShown, IsRunFaultShown, traps_untold, wrong}
+use Rattle.ob_answer_explained.specs.Explains.{AreRecordTrapsExplained, AreTrapsExplained, IsCallsFaultShown, IsExplained, IsModuleFaultShown, IsRecordExplained, IsRecordFaultShown, IsRunFaultShown, record_traps_untold, traps_untold, wrong}
 use Rattle.ob_answer_files.specs.declared.answered.Answer.{Answer}
 use Rattle.ob_answer_explained.proofs.AtOnce.{IsAtOnce, calls_refused, of_budget, of_processes, of_text_itself, refused_of_whole}
 use Rattle.ob_answer_explained.proofs.Beginnings.{beginning, of_whole_or_long}
 use Rattle.ob_answer_explained.proofs.RecordRefused.{record_refused}
+use Rattle.ob_answer_explained.specs.Refusals.{RefusesRecord}
 use Rattle.ob_command.specs.CommandLine.{Text}
 use Rattle.ob_object_compile.specs.Asked.{Asked, TellsAtOnce}
 use Rattle.ob_object_compile.specs.declared.compiling.CompileFault.{CompileFault}
@@ -85,14 +87,29 @@ long_record module_name part whole record_name text e a is told =
     let here = subst (λ (x : VerifyFault). IsRecordFaultShown module_name part record_name text x a) is told in
     subst (λ (x : VerifyFault). IsRecordFaultShown module_name whole record_name text x a) (sym is) (here.0, here.1, here.2)
 
-pub record_wrong_made : {E : Type 0} (module_name : Text) (part : List ℕ) (record_name : Text) (text : List ℕ) (e : VerifyFault) (result : Result Answer E)
+-- the fault of the beginning is that of the whole text, and so is what is shown of it
+record_wrong_both : {E : Type 0} (module_name : Text) (part : List ℕ) (record_name : Text) (text : List ℕ) (e : VerifyFault) (result : Result Answer E)
     → IfOk result (λ a. IsRecordFaultShown module_name part record_name text e a) → IfOk result (λ _. e ≢ Verify.NoMemory)
     → IsVerifyFault part text e → Verifies.TellsMemoryApart e → (Verifies.IsNumbered e → IsVerified part text → ⊥)
     → (65536 < length part → e ≡ Verifies.too_long)
-    → IfOk result (λ a. (whole : List ℕ) → part ≡ beginning whole → IsRecordExplained module_name whole record_name text a)
-record_wrong_made module_name part record_name text e (Ok a) told known stands apart none too_long =
+    → IfOk result (λ a. (whole : List ℕ) → part ≡ beginning whole → RefusesRecord whole text e × IsRecordFaultShown module_name whole record_name text e a)
+record_wrong_both module_name part record_name text e (Ok a) told known stands apart none too_long =
     λ whole is.
     let shown = of_whole_or_long (λ t. IsRecordFaultShown module_name t record_name text e a) part whole is
     (λ long longer. long_record module_name part whole record_name text e a (too_long long) told) told in
-    wrong e (record_refused part text e known stands apart none too_long whole is) shown
-record_wrong_made module_name part record_name text e (Err x) told known stands apart none too_long = tt
+    (record_refused part text e known stands apart none too_long whole is, shown)
+record_wrong_both module_name part record_name text e (Err x) told known stands apart none too_long = tt
+
+-- so it is explained, with traps and without
+module _ {E : Type 0} (module_name : Text) (part : List ℕ) (record_name : Text) (text : List ℕ) (e : VerifyFault) (result : Result Answer E)
+    (told : IfOk result (λ a. IsRecordFaultShown module_name part record_name text e a)) (known : IfOk result (λ _. e ≢ Verify.NoMemory))
+    (stands : IsVerifyFault part text e) (apart : Verifies.TellsMemoryApart e) (none : Verifies.IsNumbered e → IsVerified part text → ⊥)
+    (too_long : 65536 < length part → e ≡ Verifies.too_long) where
+  record_both : IfOk result (λ a. (whole : List ℕ) → part ≡ beginning whole → RefusesRecord whole text e × IsRecordFaultShown module_name whole record_name text e a)
+  record_both = record_wrong_both module_name part record_name text e result told known stands apart none too_long
+
+  pub record_wrong_made : IfOk result (λ a. (whole : List ℕ) → part ≡ beginning whole → IsRecordExplained module_name whole record_name text a)
+  record_wrong_made = IfOk-weaker result _ _ (λ a both whole is. let h = both whole is in wrong e h.0 h.1) record_both
+
+  pub record_untold_made : IfOk result (λ a. (whole : List ℕ) → part ≡ beginning whole → AreRecordTrapsExplained module_name whole record_name text a)
+  record_untold_made = IfOk-weaker result _ _ (λ a both whole is. let h = both whole is in record_traps_untold e h.0 h.1) record_both

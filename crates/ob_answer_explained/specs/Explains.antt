@@ -12,7 +12,8 @@ use Rattle.ob_explained.specs.ExplainedValues.{IsCarryExplanation, IsValuesExpla
 use Rattle.ob_explained_records.specs.ExplainedRecords.{IsRecordExplanation}
 use Rattle.ob_explained.specs.ExplainedRuns.{IsRunExplanation}
 use Rattle.ob_explained.specs.Sources.{Source}
-use Rattle.ob_explained_records.specs.TrapsText.{IsTrapsText}
+use Rattle.ob_explained_traps.specs.RecordTraps.{IsRecordTrapsText}
+use Rattle.ob_explained_traps.specs.ScriptTraps.{IsTrapsText}
 use Rattle.ob_fault_lines.specs.RunFaultLines.{run_fault_line}
 use Rattle.ob_fault_lines.specs.ValuesFaultLines.{values_fault_line}
 use Rattle.ob_fault_lines.specs.VerifyFaultLines.{verify_fault_line}
@@ -144,3 +145,16 @@ abbrev pub IsRecordExplained : (module_name : Text) (module_bytes : List ℕ) (r
 IsRecordExplained module_name module_bytes record_name record_bytes =
     IsExplained (IsVerified module_bytes record_bytes) (RefusesRecord module_bytes record_bytes)
     (IsRecordFaultShown module_name module_bytes record_name record_bytes)
+
+-- what is told of the calls of a record that trap is printed
+abbrev pub TellsRecordTraps : (module_name : Text) (module_bytes record_bytes : List ℕ) → Answer → Type 0
+TellsRecordTraps module_name module_bytes record_bytes answer =
+    (text : Text) × IsRecordTrapsText (source module_name module_bytes) record_bytes text × IsPrinted answer text
+
+-- To the names and the bytes of a module and of a record: where its order is legal, what is told of its calls that trap; else a fault by
+-- which the record is refused is shown.
+pub data AreRecordTrapsExplained (module_name : Text) (module_bytes : List ℕ) (record_name : Text) (record_bytes : List ℕ) (answer : Answer) : Type 0 where
+  record_traps_told : IsVerified module_bytes record_bytes → TellsRecordTraps module_name module_bytes record_bytes answer
+      → AreRecordTrapsExplained module_name module_bytes record_name record_bytes answer
+  record_traps_untold : (e : VerifyFault) → RefusesRecord module_bytes record_bytes e → IsRecordFaultShown module_name module_bytes record_name record_bytes e answer
+      → AreRecordTrapsExplained module_name module_bytes record_name record_bytes answer

@@ -104,7 +104,7 @@ pub fn explain_record(
 }
 
 /// The answer to a fault of a record.
-fn record_wrong(
+pub(crate) fn record_wrong(
     alloc: Global,
     module_name: &str,
     module: &[u8],

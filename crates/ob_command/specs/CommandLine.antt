@@ -85,9 +85,10 @@ pub record SeenRequest : Type 0 where
 -- same run by the tree of the module; the record with the own steps of its calls beside it; the same of a run that goes on until each call has
 -- ended, and of a run by a schedule of chance; the record of workers' run; a run's picture; that of a record or of a history, and of a history
 -- by a search that is told how to search; what may happen over all runs; the state behind a run; the order of a record checked; a legal order of a history; what is
--- wrong with a module, or with a module and a script, shown to people; what a fault is; how all runs come to what is not to be; where the calls of a script trap, shown to people; what is wrong with a run; the same of a record, and of a history; how many
--- own steps a call takes at most; help; the version; or nothing that there is. A command has the names of its files, and a budget is how
--- many turns each call has. A picture has some calls, or all.
+-- wrong with a module, or with a module and a script, shown to people; what a fault is; where the calls of a script trap, shown to people; what is
+-- wrong with a run; how all runs come to what is not to be; what is wrong with a record, and where its calls trap; what is wrong with a history; how
+-- many own steps a call takes at most; help; the version; or nothing that there is. A command has the names of its files, and a budget is how many
+-- turns each call has. A picture has some calls, or all.
 pub data Request : Type 0 where
   Check : (module_name : Text) → Request
   Listing : (module_name : Text) → Request
@@ -113,6 +114,7 @@ pub data Request : Type 0 where
   ExplainRun : (run : RunRequest) → Request
   ExplainAlways : (asked : AlwaysRequest) → Request
   ExplainRecord : (module_name record_name : Text) → Request
+  ExplainRecordTraps : (module_name record_name : Text) → Request
   ExplainHistory : (module_name history_name : Text) → Request
   Bound : (module_name : Text) (processes budget : ℕ) → Request
   Help : Request
@@ -517,11 +519,17 @@ explain_calls_forms =
 abbrev pub explain_script_forms : List Form
 explain_script_forms = form (Always ∷ []) (Record ∷ History ∷ Schedule ∷ Traps ∷ []) always_of ∷ explain_calls_forms
 
+-- the same, or of a history
+abbrev pub explain_history_forms : List Form
+explain_history_forms =
+    form (History ∷ []) (Record ∷ Script ∷ Processes ∷ Budget ∷ From ∷ Traps ∷ Always ∷ []) (λ m given. option_map (ExplainHistory m) given.history_name)
+    ∷ explain_script_forms
+
 abbrev pub explain_forms : List Form
 explain_forms =
     form (Record ∷ []) (History ∷ Script ∷ Processes ∷ Budget ∷ From ∷ Traps ∷ Always ∷ []) (λ m given. option_map (ExplainRecord m) given.record_name)
-    ∷ form (History ∷ []) (Record ∷ Script ∷ Processes ∷ Budget ∷ From ∷ Traps ∷ Always ∷ []) (λ m given. option_map (ExplainHistory m) given.history_name)
-    ∷ explain_script_forms
+    ∷ form (Record ∷ Traps ∷ []) (History ∷ Script ∷ Processes ∷ Budget ∷ From ∷ Always ∷ []) (λ m given. option_map (ExplainRecordTraps m) given.record_name)
+    ∷ explain_history_forms
 
 -- each command with its forms
 abbrev pub commands : List (Text × List Form)
@@ -578,7 +586,7 @@ turned_mistake =
 -- and of words behind `explain` that are in none of its forms
 abbrev pub explain_mistake : Text
 explain_mistake =
-    codes "error: these words are in no form of explain, which are\n  obl0 explain MODULE\n  obl0 explain FAULT\n  obl0 explain MODULE SCRIPT [-b BUDGET] [--from RECORD] [--traps]\n  obl0 explain MODULE SCRIPT SCHEDULE -n N [-b BUDGET] [--from RECORD]\n  obl0 explain MODULE SCRIPT -n N --always NAME [-b BUDGET] [--from RECORD]\n  obl0 explain MODULE --record RECORD\n  obl0 explain MODULE --history HISTORY\n\nFor more information, try '--help'.\n"
+    codes "error: these words are in no form of explain, which are\n  obl0 explain MODULE\n  obl0 explain FAULT\n  obl0 explain MODULE SCRIPT [-b BUDGET] [--from RECORD] [--traps]\n  obl0 explain MODULE SCRIPT SCHEDULE -n N [-b BUDGET] [--from RECORD]\n  obl0 explain MODULE SCRIPT -n N --always NAME [-b BUDGET] [--from RECORD]\n  obl0 explain MODULE --record RECORD [--traps]\n  obl0 explain MODULE --history HISTORY\n\nFor more information, try '--help'.\n"
 
 -- and of numbers behind `order` that are out of their ranges
 abbrev pub seen_budget_mistake : Text

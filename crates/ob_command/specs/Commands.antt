@@ -18,7 +18,7 @@ use Rattle.ob_command.specs.declared.given.GivenWords.{GivenWords}
 use Rattle.ob_command.specs.declared.command.Stop.{Stop}
 use Rattle.ob_command.specs.declared.command.Stop.TheVariants as stops
 use Rattle.ob_command_line.specs.ClapCommand.{obl0_app}
-use Rattle.ob_command.specs.CommandLine.{Text, clap_words, extra_of_help, form_mistake_of, has_negative, help_mistake, loose_number, number_sentence, number_tip, AlwaysRequest, CallsRequest, ChanceRequest, Given, OrderRequest, OutcomesRequest, Request, RunRequest, SeenRequest, SeqRequest, Check, Listing, Seq, Live, Run, RunTree, RunSteps, RunFinished, RunByChance, Serve, Draw, DrawRecord, DrawHistory, Outcomes, State, Verify, Order, Explain, ExplainFault, ExplainCalls, ExplainTraps, ExplainRun, ExplainAlways, ExplainRecord, ExplainHistory, Bound, Help, Version, Unclear}
+use Rattle.ob_command.specs.CommandLine.{Text, clap_words, extra_of_help, form_mistake_of, has_negative, help_mistake, loose_number, number_sentence, number_tip, AlwaysRequest, CallsRequest, ChanceRequest, Given, OrderRequest, OutcomesRequest, Request, RunRequest, SeenRequest, SeqRequest, Check, Listing, Seq, Live, Run, RunTree, RunSteps, RunFinished, RunByChance, Serve, Draw, DrawRecord, DrawHistory, Outcomes, State, Verify, Order, Explain, ExplainFault, ExplainCalls, ExplainTraps, ExplainRun, ExplainAlways, ExplainRecord, ExplainRecordTraps, ExplainHistory, Bound, Help, Version, Unclear}
 
 -- what is given by words
 abbrev pub given_by : GivenWords → Given
@@ -119,6 +119,7 @@ request_of (commands.ExplainTraps calls) = ExplainTraps (calls_request_of calls)
 request_of (commands.ExplainRun run) = ExplainRun (run_request_of run)
 request_of (commands.ExplainAlways asked) = ExplainAlways (always_request_of asked)
 request_of (commands.ExplainRecord module_name record_name) = ExplainRecord module_name.now record_name.now
+request_of (commands.ExplainRecordTraps module_name record_name) = ExplainRecordTraps module_name.now record_name.now
 request_of (commands.ExplainHistory module_name history_name) = ExplainHistory module_name.now history_name.now
 request_of (commands.Bound module_name processes budget) = Bound module_name.now processes budget
 

@@ -3,7 +3,7 @@
 ghost use Rattle.std.specs.Prelude.{◌≡◌, Some, option_map, true};
 ghost use Rattle.std.specs.Option.{option_map_or};
 ghost use Rattle.ob_command.specs.CommandLine.{always_of, are_reached, are_seen, asked, asked_by, bound_of, calls_by, calls_of, chance_by};
-ghost use Rattle.ob_command.specs.CommandLine.{chance_of, draw_forms, explain_alone, explain_calls_forms, explain_forms, explain_script_forms, finished_of, history_picture_by, history_picture_of, is_length, live_of};
+ghost use Rattle.ob_command.specs.CommandLine.{chance_of, draw_forms, explain_alone, explain_calls_forms, explain_forms, explain_history_forms, explain_script_forms, finished_of, history_picture_by, history_picture_of, is_length, live_of};
 ghost use Rattle.ob_command.specs.CommandLine.{is_most, is_place, is_seen_budget, order_by, order_of, outcomes_by, outcomes_of, picture_of, product_by, product_of};
 ghost use Rattle.ob_command.specs.CommandLine.{record_picture_of, run_file_forms, run_forms, run_of, run_product, seq_of, sequence_of, turns_of};
 ghost use Rattle.ob_command.specs.Commands.{calls_request_of, chance_request_of, given_by, request_of, run_request_of};
@@ -428,6 +428,30 @@ fn explain_asked<'a>(module_name: &'a str, given: &GivenWords<'a>) -> Option<Com
             record_name: given.record_name?,
         });
     }
+    if fits(
+        given,
+        &[Part::Record, Part::Traps],
+        &[
+            Part::History,
+            Part::Script,
+            Part::Processes,
+            Part::Budget,
+            Part::From,
+            Part::Always,
+        ],
+    ) {
+        return Some(Command::ExplainRecordTraps {
+            module_name,
+            record_name: given.record_name?,
+        });
+    }
+    explain_history_asked(module_name, given)
+}
+
+/// What is to be shown of a history, of all runs, or of a module alone, or with calls.
+fn explain_history_asked<'a>(module_name: &'a str, given: &GivenWords<'a>) -> Option<Command<'a>>
+    ensures { option_map request_of result ≡ asked_by explain_history_forms module_name.entry.now (given_by given.now) }
+{
     if fits(
         given,
         &[Part::History],

@@ -95,6 +95,11 @@ pub enum Command<'a> {
         module_name: &'a str,
         record_name: &'a str,
     },
+    /// `explain MODULE --record RECORD --traps`: where the calls of a record trap, shown to people.
+    ExplainRecordTraps {
+        module_name: &'a str,
+        record_name: &'a str,
+    },
     /// `explain MODULE --history HISTORY`: what is wrong with a history, shown to people.
     ExplainHistory {
         module_name: &'a str,

@@ -29,7 +29,7 @@ error: these words are in no form of explain, which are
   obl0 explain MODULE SCRIPT [-b BUDGET] [--from RECORD] [--traps]
   obl0 explain MODULE SCRIPT SCHEDULE -n N [-b BUDGET] [--from RECORD]
   obl0 explain MODULE SCRIPT -n N --always NAME [-b BUDGET] [--from RECORD]
-  obl0 explain MODULE --record RECORD
+  obl0 explain MODULE --record RECORD [--traps]
   obl0 explain MODULE --history HISTORY
 
 For more information, try '--help'.

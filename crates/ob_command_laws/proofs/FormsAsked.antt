@@ -3,7 +3,7 @@ use Rattle.std.proofs.Common.{◌≡◌, ◌∙◌, ◌||◌, ◌&&◌, ◌⊎�
 use Rattle.std.specs.Option.{option_map_or}
 use Rattle.std.specs.Str.{bytes_eq}
 use Rattle.clap.specs.Walk.{Text}
-use Rattle.ob_command.specs.CommandLine.{Bound, CallsRequest, ChanceRequest, Draw, DrawHistory, DrawRecord, Explain, ExplainAlways, ExplainCalls, ExplainFault, ExplainHistory, ExplainRecord, ExplainRun, ExplainTraps, Given, Live, Order, Outcomes, OutcomesRequest, Request, Run, RunByChance, RunFinished, RunRequest, RunSteps, RunTree, SeenRequest, Seq, Serve, State, Unclear, are_reached, are_seen, asked, budget_number, default_budget, default_length, default_most, default_most_reached, explain_alone, is_length, is_most, is_place, is_option, is_seen_budget, most_mistake, names_fault, number, order_by, outcomes_by, parts_mistake, place_mistake, product_by, range_by, request, run_product, seed_number, seen_budget_mistake, whole_mistake}
+use Rattle.ob_command.specs.CommandLine.{Bound, CallsRequest, ChanceRequest, Draw, DrawHistory, DrawRecord, Explain, ExplainAlways, ExplainCalls, ExplainFault, ExplainHistory, ExplainRecord, ExplainRecordTraps, ExplainRun, ExplainTraps, Given, Live, Order, Outcomes, OutcomesRequest, Request, Run, RunByChance, RunFinished, RunRequest, RunSteps, RunTree, SeenRequest, Seq, Serve, State, Unclear, are_reached, are_seen, asked, budget_number, default_budget, default_length, default_most, default_most_reached, explain_alone, is_length, is_most, is_place, is_option, is_seen_budget, most_mistake, names_fault, number, order_by, outcomes_by, parts_mistake, place_mistake, product_by, range_by, request, run_product, seed_number, seen_budget_mistake, whole_mistake}
 use Rattle.ob_command_laws.specs.PlainForms.{AreInRange, ArePlain, Argument, AsRecord, BySeed, ByTree, Chosen, Count, Finishing, Always, WithState, WithTurns, AsWhole, Has, IsLength, IsMost, IsPlace, IsSeenBudget, Lacks, ModuleAsksFor, Most, NamesBesideWhole, OfLength, OfTraps, OtherAsksFor, Range, RunAsksFor, SaysSearch, ScriptAsksFor, ScriptSays, Seen, Start, Told, Turns, WithSteps, always_with, argument_in, bound_options, budget_in, calls_with, chance_with, count_in, draw_options, explain_options, given_in, given_with_history, id_of, is_chosen, length_in, live_options, most_in, order_options, order_with, outcomes_options, outcomes_with, product_in, run_options, seed_in, seen_with, seq_options, seq_with, serve_options, state_options, text_of, turns_in, value_in, words_of}
 use Rattle.ob_command.specs.declared.command.CallNumbers.{CallNumbers}
 use Rattle.ob_command.specs.declared.command.OrderProduct.{OrderProduct}
@@ -141,6 +141,10 @@ module _ (m s d : Text) (r h f c a : Option Text) (o t q g : Option ℕ) (w x y 
   record_explained : (q : Text) → r ≡ Some q → h ≡ None → f ≡ None → o ≡ None → t ≡ None → z ≡ false → a ≡ None
       → asks (codes "explain") m alone ≡ ExplainRecord m q
   record_explained q is_r is_h is_f is_o is_t is_z is_a = rw (is_r, is_h, is_f, is_o, is_t, is_z, is_a) refl
+
+  record_traps_explained : (q : Text) → r ≡ Some q → z ≡ true → h ≡ None → f ≡ None → o ≡ None → t ≡ None → a ≡ None
+      → asks (codes "explain") m alone ≡ ExplainRecordTraps m q
+  record_traps_explained q is_r is_z is_h is_f is_o is_t is_a = rw (is_r, is_h, is_f, is_o, is_t, is_z, is_a) refl
 
   history_explained : (q : Text) → h ≡ Some q → r ≡ None → f ≡ None → o ≡ None → t ≡ None → z ≡ false → a ≡ None
       → asks (codes "explain") m alone ≡ ExplainHistory m q
@@ -653,6 +657,15 @@ explain_record_form r m chosen no_m plain holds =
     explain_module_asks m chosen no_m plain (not_needed chosen)
     ∙ record_explained m [] [] (told chosen) (seen chosen) (begun chosen) (shown chosen) (named chosen) (count_in chosen) (spent chosen) (looked chosen) (parted chosen) (recorded chosen) (treed chosen) (stepped chosen) (trapped chosen) (seeded chosen) (lengthened chosen) (ended chosen) (stated chosen) (timed chosen) (wholly chosen) r holds.0 (no_value (codes "HISTORY") chosen holds.1.0) (no_value (codes "FROM") chosen holds.1.1.0)
     (no_count chosen holds.1.1.1.0) (no_turns chosen holds.1.1.1.1.0) holds.1.1.1.1.1.0 (no_value (codes "NAME") chosen holds.1.1.1.1.1.1.0)
+
+pub explain_record_traps_form : (r : Text) → ModuleAsksFor (codes "explain") explain_options
+    (λ chosen. (value_in (codes "RECORD") chosen ≡ Some r) × Has (codes "traps") chosen
+    × Lacks (codes "HISTORY" ∷ codes "FROM" ∷ codes "N" ∷ codes "BUDGET" ∷ codes "NAME" ∷ []) chosen)
+    (λ m chosen. ExplainRecordTraps m r)
+explain_record_traps_form r m chosen no_m plain holds =
+    explain_module_asks m chosen no_m plain (not_needed chosen)
+    ∙ record_traps_explained m [] [] (told chosen) (seen chosen) (begun chosen) (shown chosen) (named chosen) (count_in chosen) (spent chosen) (looked chosen) (parted chosen) (recorded chosen) (treed chosen) (stepped chosen) (trapped chosen) (seeded chosen) (lengthened chosen) (ended chosen) (stated chosen) (timed chosen) (wholly chosen) r holds.0 holds.1 (no_value (codes "HISTORY") chosen holds.2.0) (no_value (codes "FROM") chosen holds.2.1.0)
+    (no_count chosen holds.2.1.1.0) (no_turns chosen holds.2.1.1.1.0) (no_value (codes "NAME") chosen holds.2.1.1.1.1.0)
 
 pub explain_history_form : (h : Text) → ModuleAsksFor (codes "explain") explain_options
     (λ chosen. (value_in (codes "HISTORY") chosen ≡ Some h) × Lacks (codes "RECORD" ∷ codes "FROM" ∷ codes "N" ∷ codes "BUDGET" ∷ codes "traps" ∷ codes "NAME" ∷ []) chosen)

@@ -4,7 +4,7 @@ ghost use Rattle.std.specs.Prelude.{◌≡◌, ◌⊎◌, ℕ, List, Option, Som
 ghost use Rattle.clap.specs.Words.{fault_of};
 ghost use Rattle.ob_command_line.specs.ClapCommand.{obl0_app};
 ghost use Rattle.ob_command.specs.CommandLine.{Bound, Check, Draw, DrawHistory, DrawRecord, Explain, ExplainAlways, ExplainCalls, ExplainFault};
-ghost use Rattle.ob_command.specs.CommandLine.{ExplainHistory, ExplainRecord, ExplainRun, ExplainTraps, Help, Listing, Live, Order, Outcomes, Run, RunByChance, RunFinished, RunSteps, RunTree, Seq, State};
+ghost use Rattle.ob_command.specs.CommandLine.{ExplainHistory, ExplainRecord, ExplainRecordTraps, ExplainRun, ExplainTraps, Help, Listing, Live, Order, Outcomes, Run, RunByChance, RunFinished, RunSteps, RunTree, Seq, State};
 ghost use Rattle.ob_command.specs.CommandLine.{Serve, Text, Unclear, Verify};
 ghost use Rattle.ob_command.specs.CommandLine.{Version, asks_command, command_names, form_mistake_of, is_option, most_mistake, names_fault, parts_mistake};
 ghost use Rattle.ob_command.specs.CommandLine.{place_mistake, range_by, request, seen_budget_mistake, whole_mistake};
@@ -136,6 +136,10 @@ pub fn explain_is_asked()
         (λ chosen. (value_in (codes "RECORD") chosen ≡ Some r)
         × Lacks (codes "HISTORY" ∷ codes "FROM" ∷ codes "N" ∷ codes "BUDGET" ∷ codes "traps" ∷ codes "NAME" ∷ []) chosen)
         (λ m chosen. ExplainRecord m r) }
+    ensures record_traps { (r : Text) → ModuleAsksFor (codes "explain") explain_options
+        (λ chosen. (value_in (codes "RECORD") chosen ≡ Some r) × Has (codes "traps") chosen
+        × Lacks (codes "HISTORY" ∷ codes "FROM" ∷ codes "N" ∷ codes "BUDGET" ∷ codes "NAME" ∷ []) chosen)
+        (λ m chosen. ExplainRecordTraps m r) }
     ensures history { (h : Text) → ModuleAsksFor (codes "explain") explain_options
         (λ chosen. (value_in (codes "HISTORY") chosen ≡ Some h)
         × Lacks (codes "RECORD" ∷ codes "FROM" ∷ codes "N" ∷ codes "BUDGET" ∷ codes "traps" ∷ codes "NAME" ∷ []) chosen)

@@ -151,8 +151,8 @@ abbrev pub draw_app : Text → App
 draw_app command = command_app command (name_rule (codes "MODULE") ∷ name_rule (codes "SCRIPT") ∷ new_rule (codes "SCHEDULE")
     ∷ optional_number_rule ∷ budget_rule ∷ from_rule ∷ calls_rule ∷ most_rule ∷ [])
 
--- `MODULE`, `MODULE SCRIPT -b BUDGET --from RECORD --traps`, `MODULE SCRIPT SCHEDULE -n N -b BUDGET --from RECORD`, `MODULE --record RECORD`,
--- `MODULE --history HISTORY`, `MODULE SCRIPT -n N --always NAME -b BUDGET --from RECORD`
+-- `MODULE`, `MODULE SCRIPT -b BUDGET --from RECORD --traps`, `MODULE SCRIPT SCHEDULE -n N -b BUDGET --from RECORD`,
+-- `MODULE --record RECORD --traps`, `MODULE --history HISTORY`, `MODULE SCRIPT -n N --always NAME -b BUDGET --from RECORD`
 abbrev pub explain_app : Text → App
 explain_app command = command_app command (name_rule (codes "MODULE") ∷ new_rule (codes "SCRIPT") ∷ new_rule (codes "SCHEDULE")
     ∷ optional_number_rule ∷ budget_rule ∷ from_rule ∷ record_rule ∷ history_rule ∷ flag_rule (codes "traps") ∷ always_rule ∷ [])

@@ -87,7 +87,7 @@ obl0 explain MODULE
        obl0 explain MODULE SCRIPT [-b BUDGET] [--from RECORD] [--traps]
        obl0 explain MODULE SCRIPT SCHEDULE -n N [-b BUDGET] [--from RECORD]
        obl0 explain MODULE SCRIPT -n N --always NAME [-b BUDGET] [--from RECORD]
-       obl0 explain MODULE --record RECORD
+       obl0 explain MODULE --record RECORD [--traps]
        obl0 explain MODULE --history HISTORY";
 
 const USAGE_BOUND: &str = "obl0 bound MODULE -n N [-b BUDGET]";

@@ -1,9 +1,6 @@
-pub mod CallLines
 pub mod ExplainedHistories
 pub mod ExplainedRecords
 pub mod FormRemarks
 pub mod MadeTexts
 pub mod OrderPlaces
 pub mod OrderRemarks
-pub mod TrapLines
-pub mod TrapsText

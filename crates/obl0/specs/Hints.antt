@@ -7,7 +7,7 @@ use Rattle.std.specs.Str.{bytes_eq}
 use Rattle.std.specs.declared.io.ErrorKind.{ErrorKind}
 use Rattle.std.specs.declared.io.ErrorKind.TheVariants as Kind
 use Rattle.ob_command.specs.CommandLine.{Text, CallsRequest, OrderRequest, OutcomesRequest, Request, RunRequest, SeenRequest, Check, Listing, Seq, Live, Run, RunTree, RunSteps, RunFinished, RunByChance, Serve, Draw, DrawRecord, DrawHistory, Outcomes, State, Verify, Order}
-use Rattle.ob_command.specs.CommandLine.{Explain, ExplainAlways, ExplainCalls, ExplainFault, ExplainTraps, ExplainRun, ExplainRecord, ExplainHistory, Bound, default_budget, default_most, default_most_reached}
+use Rattle.ob_command.specs.CommandLine.{Explain, ExplainAlways, ExplainCalls, ExplainFault, ExplainTraps, ExplainRun, ExplainRecord, ExplainRecordTraps, ExplainHistory, Bound, default_budget, default_most, default_most_reached}
 use Rattle.ob_command.specs.declared.command.OrderProduct.{OrderProduct}
 use Rattle.ob_command.specs.declared.command.RunProduct.{RunProduct}
 use Rattle.ob_command.specs.declared.command.RunProduct.TheVariants as products
@@ -276,6 +276,7 @@ is_explain (ExplainTraps calls) = true
 is_explain (ExplainRun run) = true
 is_explain (ExplainAlways asked) = true
 is_explain (ExplainRecord module_name record_name) = true
+is_explain (ExplainRecordTraps module_name record_name) = true
 is_explain (ExplainHistory module_name history_name) = true
 is_explain request = false
 

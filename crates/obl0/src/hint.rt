@@ -178,6 +178,7 @@ fn is_explain(command: Command<'_>) -> bool
             | Command::ExplainRun(_)
             | Command::ExplainAlways(_)
             | Command::ExplainRecord { .. }
+            | Command::ExplainRecordTraps { .. }
             | Command::ExplainHistory { .. }
     )
 }
@@ -281,6 +282,7 @@ fn form_about(alloc: Global, command: Command<'_>, line: &[u8]) -> Result<String
         | Command::ExplainRun(_)
         | Command::ExplainAlways(_)
         | Command::ExplainRecord { .. }
+        | Command::ExplainRecordTraps { .. }
         | Command::ExplainHistory { .. } => Ok(String::new(alloc)),
     }
 }

@@ -88,6 +88,9 @@ returns-in-ExplainAlways g c = rw c.in-ExplainAlways.is c.obey_all_runs-in-Expla
 pub returns-in-ExplainRecord : goal.returns-in-ExplainRecord
 returns-in-ExplainRecord g c = rw c.in-ExplainRecord.is c.obey_explain_record.ensures
 
+pub returns-in-ExplainRecordTraps : goal.returns-in-ExplainRecordTraps
+returns-in-ExplainRecordTraps g c = rw c.in-ExplainRecordTraps.is c.obey_explain_record_traps.ensures
+
 pub returns-in-ExplainHistory : goal.returns-in-ExplainHistory
 returns-in-ExplainHistory g c = rw c.in-ExplainHistory.is c.obey_explain_history.ensures
 

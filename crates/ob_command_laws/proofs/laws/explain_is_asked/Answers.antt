@@ -1,5 +1,5 @@
 use Rattle.ob_command_laws.proofs.CommandForms.{explain_module_asks, explain_schedule_asks, explain_script_asks}
-use Rattle.ob_command_laws.proofs.FormsAsked.{explain_always_form, explain_budget_form, explain_calls_form, explain_fault_form, explain_form, explain_history_form, explain_record_form, explain_run_form, explain_traps_form}
+use Rattle.ob_command_laws.proofs.FormsAsked.{explain_always_form, explain_budget_form, explain_calls_form, explain_fault_form, explain_form, explain_history_form, explain_record_form, explain_record_traps_form, explain_run_form, explain_traps_form}
 use Rattle.ob_command_laws.proofs.laws.explain_is_asked.Goals as goal
 
 pub returns-clause-table_of_one : goal.returns-clause-table_of_one
@@ -22,6 +22,9 @@ returns-clause-fault c = explain_fault_form
 
 pub returns-clause-record : goal.returns-clause-record
 returns-clause-record c = explain_record_form
+
+pub returns-clause-record_traps : goal.returns-clause-record_traps
+returns-clause-record_traps c = explain_record_traps_form
 
 pub returns-clause-history : goal.returns-clause-history
 returns-clause-history c = explain_history_form

@@ -1,5 +1,0 @@
-use Rattle.ob_explained_records.proofs.Lines.{script_lined}
-use Rattle.ob_explained_records.proofs.laws.each_call_has_a_line.Goals as goal
-
-pub returns : goal.returns
-returns c = script_lined
