@@ -11,8 +11,8 @@ use ob_interface::NoMemory;
 use smallvec::SmallVec;
 use std::alloc::{AllocError, Global};
 
-/// The numbers of replies, in order. Of eight of them and less no memory is taken.
-pub type Said = SmallVec<usize, 8>;
+/// The numbers of replies, in order. Of sixteen of them and less no memory is taken.
+pub type Said = SmallVec<usize, 16>;
 
 /// Lists of the numbers of replies, each once. What is kept of a list is its place here.
 pub type Lists = IndexSet<Said, Keys>;
