@@ -1,5 +1,5 @@
 -- The calls of a history fit the program of whose object it is, and its openings open the variables.
-use Rattle.std.proofs.Common.{ℕ, List, [], take, Option, Some, None}
+use Rattle.std.proofs.Common.{ℕ, List, take, Option}
 use Rattle.ob_checked.specs.Exports.{signatures}
 use Rattle.ob_code_correct.specs.Carried.{BegunFit}
 use Rattle.ob_code_correct.specs.Compiled.{Fits}

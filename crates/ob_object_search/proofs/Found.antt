@@ -7,7 +7,7 @@ use Rattle.ob_object_run.specs.LegalOrder.{CallEnds}
 use Rattle.ob_object_search.proofs.Verdicts as Searches
 use Rattle.ob_object_search.specs.Found.{IsEnoughHere}
 use Rattle.ob_object_search.proofs.Renumbered.{has_back, last_here, legal_here, needed_here}
-use Rattle.ob_object_search.specs.NumberedParts.{AreOrdersHere, IsFaultHere, IsFoundHere, IsPartFault, IsPartHere, named_call, named_part}
+use Rattle.ob_object_search.specs.NumberedParts.{AreOrdersHere, IsFaultHere, IsFoundHere, IsPartFault, IsPartHere, named_call}
 use Rattle.ob_object_search.specs.Parted.{PartOrder}
 use Rattle.ob_object_search.specs.Parted as Parted
 use Rattle.ob_object_search.specs.declared.fault.PartsFault.{PartsFault}

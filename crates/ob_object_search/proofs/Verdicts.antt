@@ -4,7 +4,7 @@ use Rattle.ob_interface.specs.Call.{ObjectCall, Reply}
 use Rattle.ob_object_run.specs.LegalOrder.{CallEnds}
 use Rattle.ob_object_search.proofs.Renamed.{has_unnamed, last_named, legal_named, needless_named}
 use Rattle.ob_object_search.specs.Found.{HasOrderHere, IsEnoughHere, IsFaultHere, IsNeededHere}
-use Rattle.ob_object_search.specs.SearchFaults.{CeasesAt, TellsMemoryApart}
+use Rattle.ob_object_search.specs.SearchFaults.{TellsMemoryApart}
 use Rattle.ob_object_search.specs.declared.searching.SearchFault.{SearchFault}
 use Rattle.ob_object_search.specs.declared.searching.SearchFault.TheVariants as Faults
 use Rattle.ob_meaning.specs.ByPositionStore.{Activation}

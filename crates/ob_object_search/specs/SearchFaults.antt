@@ -1,5 +1,5 @@
 -- What each fault says of the bytes of a module and of a history.
-use Rattle.std.specs.Prelude.{◌≡◌, ◌≢◌, ◌⊎◌, ℕ, List, length, Option, Result, IfErr}
+use Rattle.std.specs.Prelude.{◌≡◌, ◌≢◌, ◌⊎◌, ℕ, List, length, Option}
 use Rattle.ob_check.specs.CheckedText.{IsNumberedText, IsTextFault}
 use Rattle.ob_check.specs.declared.texts.TextFault.{TextFault}
 use Rattle.ob_check.specs.declared.texts.TextFault.TheVariants as Text

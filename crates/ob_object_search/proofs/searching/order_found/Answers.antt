@@ -1,4 +1,4 @@
-use Rattle.std.proofs.Common.{◌≡◌, ◌∙◌, List, ap, map, subst, sym}
+use Rattle.std.proofs.Common.{◌∙◌, List, ap, map, subst, sym}
 use Rattle.ob_checked.specs.CheckedModule.{program_in}
 use Rattle.ob_object_run.specs.LegalOrder.{CallEnds}
 use Rattle.ob_object_search.proofs.Verdicts.{legal_found, needed_named, none_named, order_named}
