@@ -58,7 +58,7 @@ const HELP_FINISH: &str =
     "Goes on behind the schedule until each call has ended, by an item PROCESS! for each of them";
 
 const HELP_TRAPS: &str =
-    "Shows each operation at which calls of the script or of the record trap, and its values";
+    "Shows each place where calls of the script or of the record trap, once for each trap: the operation, its values, and how many calls trap there";
 
 /// The words behind a command that makes a run, by a schedule that is named or one by chance.
 pub fn run_line<'a>(

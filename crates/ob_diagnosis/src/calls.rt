@@ -56,13 +56,12 @@ pub(crate) fn is_assigned(site: &Site<'_, '_>) -> bool {
     is_kind(end, Kind::Assign)
 }
 
-/// The name of the call that may end behind the place, where tokens of these kinds could stand.
+/// The name of the call that may end behind the place, or in whose parentheses it stands, where tokens of these kinds could stand.
 pub(crate) fn called(site: &Site<'_, '_>, could: &[Kind]) -> Option<Token> {
     let ends_statement = could.contains(&Kind::End) || could.contains(&Kind::Until);
     let ends = (could.contains(&Kind::Assign) && could.contains(&Kind::LeftParen))
-        || (is_kind(site.last(), Kind::RightParen)
-            && ends_statement
-            && !could.contains(&Kind::And));
+        || (is_kind(site.last(), Kind::RightParen) && ends_statement && !could.contains(&Kind::And))
+        || (could.contains(&Kind::RightParen) && could.contains(&Kind::Comma));
     let leader = site
         .before
         .iter()

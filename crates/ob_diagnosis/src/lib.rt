@@ -5,6 +5,7 @@
 
 mod calls;
 mod foreign;
+mod further;
 mod keywords;
 mod missing;
 pub mod remark;

@@ -17,15 +17,27 @@ pub(crate) fn missing_there(
         return Ok(None);
     };
     let (kind, fact) = awaited(could);
+    if goes_on_behind(alloc, site, kind, here.kind)? {
+        Ok(Some(fact))
+    } else if could.contains(&Kind::Comma) && goes_on_behind(alloc, site, Kind::Comma, here.kind)? {
+        Ok(Some(Fact::NoComma))
+    } else {
+        Ok(None)
+    }
+}
+
+/// Whether the text before the place goes on with a token of this kind and, behind it, with one of that kind.
+fn goes_on_behind(
+    alloc: Global,
+    site: &Site<'_, '_>,
+    kind: Kind,
+    here: Kind,
+) -> Result<bool, AllocError> {
     let mut tried = Vec::from_slice(alloc, site.text.split_at(site.place.min(site.text.len())).0)?;
     tried.push(b' ')?;
     tried.extend_from_slice(sample(kind).as_bytes())?;
     let end = tried.len();
-    if is_expected(alloc, &tried, end, here.kind)? {
-        Ok(Some(fact))
-    } else {
-        Ok(None)
-    }
+    is_expected(alloc, &tried, end, here)
 }
 
 /// Which of THEN, DO, `;`, `]` and `)` may be missing where tokens of these kinds could stand.

@@ -7,6 +7,7 @@ ghost use Rattle.ob_messages.specs.Remarks.{remark_of};
 
 use crate::calls::{declares, is_field};
 use crate::foreign::{is_number_type, is_small_keyword};
+use crate::further::{declares_other, is_elsewhere};
 use crate::table_rows::{Seen, nothing, of_facts, told};
 use ob_evidence::facts::facts_of;
 use ob_evidence::names::{
@@ -14,7 +15,7 @@ use ob_evidence::names::{
 };
 use ob_evidence::numbers::{first_operand, is_known, length_there, second_operand, written};
 use ob_evidence::site::{Site, is_kind, kind_or_name, rest_of};
-use ob_evidence::types::types_there;
+use ob_evidence::types::{note_whole, types_there};
 use ob_evidence::words::{are_told, is_counted, is_in_procedure, told_words, words_there};
 use ob_explain_names::actuals::actual_count;
 use ob_explain_names::declarations::in_record;
@@ -37,8 +38,9 @@ pub(crate) fn unknown_remark(alloc: Global, site: &Site<'_, '_>) -> Result<Remar
         alloc,
         &[
             (is_near(near), Fact::Near),
-            (declares(site, site.behind, word), Fact::FurtherDown),
+            (is_further_down(site, word), Fact::FurtherDown),
             (is_field(site, word), Fact::Field),
+            (is_elsewhere(site, word), Fact::Elsewhere),
             (is_number_type(word), Fact::NumberType),
             (is_small_keyword(word), Fact::SmallKeyword),
         ],
@@ -52,6 +54,11 @@ pub(crate) fn unknown_remark(alloc: Global, site: &Site<'_, '_>) -> Result<Remar
         ..nothing()
     };
     told(alloc, site, Number::C1, &seen, &evidence)
+}
+
+/// Whether a constant, a type or a procedure of this name is declared behind the place.
+fn is_further_down(site: &Site<'_, '_>, word: &[u8]) -> bool {
+    declares(site, site.behind, word) || declares_other(site, site.behind, word)
 }
 
 /// The word at the place; empty behind a `.`, where it is the name of a field.
@@ -86,8 +93,13 @@ pub(crate) fn twice_remark(alloc: Global, site: &Site<'_, '_>) -> Result<Remark,
 pub(crate) fn sort_remark(alloc: Global, site: &Site<'_, '_>) -> Result<Remark, AllocError>
     ensures { IfOk result (λ remark. Tells (scene_of site.now) Number.C3 (remark_of remark)) }
 {
-    let facts = sort_facts(alloc, sort_there(site))?;
-    told(alloc, site, Number::C3, &of_facts(&facts), &nothing())
+    let mut facts = sort_facts(alloc, sort_there(site))?;
+    note_whole(&mut facts, alloc, site)?;
+    let seen = Seen {
+        word: site.word_of(site.next()),
+        ..of_facts(&facts)
+    };
+    told(alloc, site, Number::C3, &seen, &nothing())
 }
 
 /// The remark on a type that differs (C4).

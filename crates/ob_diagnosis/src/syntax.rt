@@ -34,14 +34,17 @@ fn expected_remark(alloc: Global, site: &Site<'_, '_>, could: &[Kind]) -> Result
 {
     let mut facts = Vec::new(alloc);
     let found = seen_there(&mut facts, alloc, site, could)?;
+    let last = site.last();
+    let before = site.word_of(last);
     let seen = Seen {
         facts: &facts,
         word: site.word(),
-        word_before: site.word_of(site.last()),
+        word_before: before,
         called: site.word_of(found.called),
     };
     let opening = opening_of(found.shown);
     let evidence = Evidence {
+        name: before,
         could,
         keyword: found.keyword.unwrap_or(Kind::Ident),
         opening: kind_or_name(opening),

@@ -129,6 +129,7 @@ pub(crate) fn plain_remark(
             (begins_other(from), Fact::NotAscii),
             (ends_number(before), Fact::BehindDigits),
             (ends_with_minus(before), Fact::BehindMinus),
+            (awaits_type(before), Fact::TypeAwaited),
         ],
     )?;
     told(alloc, site, number, &of_facts(&facts), &nothing())
@@ -140,6 +141,14 @@ fn ends_with_minus(before: &[u8]) -> bool {
         Some(last) => *last == b'-',
         None => false,
     }
+}
+
+/// Whether a `:`, a `=` or an OF stands at the end of some bytes, but for blanks.
+fn awaits_type(before: &[u8]) -> bool {
+    let before = before.trim_ascii_end();
+    before.ends_with(b":")
+        || before.ends_with(b"=") && !before.ends_with(b":=")
+        || before.ends_with(b" OF")
 }
 
 /// Whether the first of some bytes is no ASCII.

@@ -6,12 +6,14 @@ ghost use Rattle.ob_evidence.specs.Sites.{scene_of};
 
 use crate::calls::{called, declares, ends_repeat, is_assigned, lists};
 use crate::foreign::{is_foreign, is_small_keyword, is_type_name};
-use crate::keywords::meant_keyword;
+use crate::further::{begins_block, declares_type, has_ended, is_closed_behind};
+use crate::keywords::{is_keyword, keyword_before, keyword_there};
 use crate::missing::missing_there;
 use ob_evidence::constructs::{Shown, shown_there};
 use ob_evidence::facts::note;
 use ob_evidence::site::{Site, is_kind};
 use ob_explain_names::open::open_construct;
+use ob_explain_names::parens::is_in_parens;
 use ob_messages::table::Fact;
 use ob_scan::{Kind, Token};
 use std::alloc::{AllocError, Global};
@@ -35,8 +37,7 @@ pub(crate) fn seen_there(
 ) -> Result<Found, AllocError>
     ensures { IfOk result (λ found. AreShown (scene_of site.now) found.shown) }
 {
-    let keyword = meant_keyword(alloc, site)?;
-    note(facts, keyword.is_some(), Fact::Keyword)?;
+    let keyword = noted_keyword(facts, alloc, site)?;
     note(facts, !could.is_empty(), Fact::Expected)?;
     note_tokens(facts, site, could)?;
     note_words(facts, site)?;
@@ -54,7 +55,7 @@ pub(crate) fn seen_there(
         facts.push(missing)?;
     }
     let shown = shown_there(site, could);
-    note_constructs(facts, shown)?;
+    note_constructs(facts, site, shown)?;
     Ok(Found {
         keyword,
         shown,
@@ -62,12 +63,38 @@ pub(crate) fn seen_there(
     })
 }
 
+/// The keyword that is meant there or before it, which is noted.
+fn noted_keyword(
+    facts: &mut Vec<Fact>,
+    alloc: Global,
+    site: &Site<'_, '_>,
+) -> Result<Option<Kind>, AllocError> {
+    if let Some(keyword) = keyword_there(alloc, site)? {
+        facts.push(Fact::Keyword)?;
+        return Ok(Some(keyword));
+    }
+    let keyword = keyword_before(alloc, site)?;
+    note(facts, keyword.is_some(), Fact::Keyword)?;
+    note(facts, keyword.is_some(), Fact::KeywordBefore)?;
+    Ok(keyword)
+}
+
 /// Notes what the constructs show.
-fn note_constructs(facts: &mut Vec<Fact>, shown: Option<Shown>) -> Result<(), AllocError> {
+fn note_constructs(
+    facts: &mut Vec<Fact>,
+    site: &Site<'_, '_>,
+    shown: Option<Shown>,
+) -> Result<(), AllocError> {
     let Some(shown) = shown else {
         return Ok(());
     };
     facts.push(shown.fact)?;
+    let is_case = is_kind(site.here(), Kind::Else) || is_kind(site.here(), Kind::Elsif);
+    note(
+        facts,
+        is_case && is_kind(shown.opening, Kind::If),
+        Fact::BehindElse,
+    )?;
     note(
         facts,
         is_kind(shown.opening, Kind::Repeat),
@@ -84,6 +111,11 @@ fn note_tokens(
 ) -> Result<(), AllocError> {
     note(facts, is_touching(site), Fact::Touching)?;
     note(facts, ends_heading(site, could), Fact::Heading)?;
+    note(facts, is_keyword_there(site), Fact::KeywordThere)?;
+    note(facts, has_ended(site), Fact::ModuleEnded)?;
+    note(facts, is_in_parens(site.before), Fact::InParens)?;
+    note(facts, is_closed_behind(site), Fact::ClosedBehind)?;
+    note(facts, begins_block(site), Fact::Block)?;
     note(
         facts,
         is_kind(open_construct(site.before), Kind::Module),
@@ -115,12 +147,30 @@ fn note_words(facts: &mut Vec<Fact>, site: &Site<'_, '_>) -> Result<(), AllocErr
         Fact::Actual,
     )?;
     note(facts, is_type_name(before), Fact::TypeBefore)?;
-    note(facts, is_type_name(word), Fact::TypeThere)?;
+    note(
+        facts,
+        is_type_name(word) || declares_type(site, word),
+        Fact::TypeThere,
+    )?;
+    let next = site.word_of(site.next());
+    note(
+        facts,
+        is_type_name(next) || declares_type(site, next),
+        Fact::TypeNext,
+    )?;
     note(
         facts,
         is_small_keyword(word) || is_small_keyword(before),
         Fact::SmallKeyword,
     )
+}
+
+/// Whether a keyword stands there.
+fn is_keyword_there(site: &Site<'_, '_>) -> bool {
+    match site.here() {
+        Some(here) => is_keyword(here.kind),
+        None => false,
+    }
 }
 
 /// Whether the last token and the one there touch.

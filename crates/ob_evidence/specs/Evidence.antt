@@ -18,18 +18,19 @@ use Rattle.ob_evidence.specs.Expected.{AreExpected}
 use Rattle.ob_evidence.specs.Facts.{facts_in}
 use Rattle.ob_evidence.specs.Names.{declared, declared_line, end_name, is_near, near_name, parameters, sort_facts, sort_there}
 use Rattle.ob_evidence.specs.Numbers.{first_operand, is_known, length_there, second_operand, written}
-use Rattle.ob_evidence.specs.Sites.{Scene, here, is_kind, is_token, kind_or_name, line_of, rest_of, word_of}
-use Rattle.ob_evidence.specs.Types.{types_there}
+use Rattle.ob_evidence.specs.Sites.{Scene, here, is_kind, is_token, kind_or_name, last, line_of, rest_of, word_of}
+use Rattle.ob_evidence.specs.Types.{form_ended, types_there, with_whole}
 use Rattle.ob_evidence.specs.Words.{are_told, is_counted, is_in_procedure, told_words, words_there}
 use Rattle.ob_evidence.specs.declared.constructs.Shown.{Shown}
 
--- P1: what could stand there are the kinds of token with which the text before it goes on; the keyword and the lines are those of a
--- construct that is open there or that the END before it closes, and of an IF in it. Of the facts, by which a hint is chosen, nothing is
--- promised, nor of the keyword that a hint asks about.
+-- P1: what could stand there are the kinds of token with which the text before it goes on; the name is the word just before it; the
+-- keyword and the lines are those of a construct that is open there or that the END before it closes, and of an IF in it. Of the facts,
+-- by which a hint is chosen, nothing is promised, nor of the keyword that a hint asks about.
 pub record IsUnexpected (s : Scene) (e : Evidence) : Type 0 where
   pub shown : Option Shown
   pub are_shown : AreShown s shown
   pub expected : AreExpected s.text s.place e.could
+  pub name : e.name ≡ word_of s.text (last s)
   pub keyword : e.opening ≡ kind_or_name (opening_of shown)
   pub line : e.line ≡ line_of s.text (opening_of shown)
   pub other_line : e.other_line ≡ line_of s.text (inner_of shown)
@@ -48,21 +49,22 @@ pub record IsOtherName (s : Scene) (facts : List Fact) (e : Evidence) : Type 0 w
 pub record IsUnknownName (s : Scene) (facts : List Fact) (e : Evidence) : Type 0 where
   pub further_down : Bool
   pub field : Bool
+  pub elsewhere : Bool
   pub number_type : Bool
   pub small_keyword : Bool
   pub name : e.name ≡ bytes_of s.text (near_name s).named
   pub noted : facts ≡ facts_in (
       (is_near (near_name s), Facts.Near) ∷ (further_down, Facts.FurtherDown) ∷ (field, Facts.Field)
-      ∷ (number_type, Facts.NumberType) ∷ (small_keyword, Facts.SmallKeyword) ∷ [])
+      ∷ (elsewhere, Facts.Elsewhere) ∷ (number_type, Facts.NumberType) ∷ (small_keyword, Facts.SmallKeyword) ∷ [])
 
 -- C2: the line is that of the declaration before.
 pub record IsDeclaredTwice (s : Scene) (facts : List Fact) (e : Evidence) : Type 0 where
   pub line : e.line ≡ declared_line s.text (declared s)
   pub noted : facts ≡ facts_in ((in_record 0 s.before, Facts.InRecord) ∷ (is_there (declared s), Facts.Before) ∷ [])
 
--- C3: what a name stands for is what it is declared as.
+-- C3: what a name stands for is what it is declared as; a whole array or a whole record before the place is what stands there.
 abbrev pub IsOtherSort : Scene → List Fact → Type 0
-IsOtherSort s facts = facts ≡ sort_facts (sort_there s)
+IsOtherSort s facts = facts ≡ with_whole (sort_facts (sort_there s)) (form_ended s)
 
 -- C4: the types are those beside an operator, or of an expression and of what it is assigned to or stands for. Of the facts, by which
 -- a sentence is chosen, nothing is promised.

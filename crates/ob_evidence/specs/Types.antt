@@ -1,5 +1,5 @@
 -- Which type is wanted at a place, and which one stands there.
-use Rattle.std.specs.Prelude.{◌-◌, Bool, true, false, List, [], ◌∷◌, Option, Some, None, if◌then◌else◌}
+use Rattle.std.specs.Prelude.{◌-◌, ◌++◌, Bool, true, false, List, [], ◌∷◌, reverse, Option, Some, None, if◌then◌else◌}
 use Rattle.ob_scan.specs.declared.token.Kind.{Kind}
 use Rattle.ob_scan.specs.declared.token.Kind.TheVariants as Kinds
 use Rattle.ob_scan.specs.declared.token.Token.{Token}
@@ -9,6 +9,8 @@ use Rattle.ob_explain_parts.specs.Parameters.{parameter_form}
 use Rattle.ob_explain_parts.specs.declared.forms.Form.{Form}
 use Rattle.ob_explain_parts.specs.declared.forms.Form.TheVariants as Forms
 use Rattle.ob_explain_names.specs.Around as Tokens
+use Rattle.ob_messages.specs.declared.table.Fact.{Fact}
+use Rattle.ob_messages.specs.declared.table.Fact.TheVariants as Facts
 use Rattle.ob_messages.specs.declared.table.Type.{«Type»}
 use Rattle.ob_messages.specs.declared.table.Type.TheVariants as Shown
 use Rattle.ob_evidence.specs.Sites.{Scene, here, last}
@@ -83,6 +85,18 @@ found_there s = found_from s (Tokens.behind (s.place - 1) s.tokens)
 abbrev pub or_other : (wanted found : Form) → Form
 or_other wanted Forms.Unknown = other wanted
 or_other wanted found = found
+
+-- ---- what stands before the place
+
+-- the type of what ends before the place, by the tokens up to there: at the `.` of `a[i].f` that of `a[i]`
+abbrev pub form_ended : Scene → Form
+form_ended s = form_before s.text s.known (reverse s.before) s.before
+
+-- facts, and behind them that a whole array or a whole record is there
+abbrev pub with_whole : List Fact → Form → List Fact
+with_whole facts Forms.Array = facts ++ Facts.ArrayBefore ∷ []
+with_whole facts Forms.Record = facts ++ Facts.RecordBefore ∷ []
+with_whole facts other = facts
 
 -- ---- how it is told
 

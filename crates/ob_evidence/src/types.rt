@@ -1,9 +1,9 @@
 //! Which type stands at a place, and which is needed there.
 
-ghost use Rattle.std.specs.Prelude.{◌≡◌, IfOk};
+ghost use Rattle.std.specs.Prelude.{◌≡◌, IfOk, OnOk};
 ghost use Rattle.ob_evidence.specs.Sites.{scene_of};
-ghost use Rattle.ob_evidence.specs.Types.{found_there, is_same, of_expression, of_sign, operator_at, operator_by, or_other, sign_behind};
-ghost use Rattle.ob_evidence.specs.Types.{told, type_of, types_there, wanted_by, wanted_there};
+ghost use Rattle.ob_evidence.specs.Types.{form_ended, found_there, is_same, of_expression, of_sign, operator_at, operator_by, or_other};
+ghost use Rattle.ob_evidence.specs.Types.{sign_behind, told, type_of, types_there, wanted_by, wanted_there, with_whole};
 ghost use Rattle.ob_explain_parts.specs.Forms.{other};
 
 use crate::facts::note;
@@ -254,6 +254,7 @@ fn note_expression(
     let is_assigned = is_kind(site.last(), Kind::Assign);
     let is_actual = matches!(role, Role::Actual);
     let fact = match wanted {
+        Form::Integer | Form::Boolean if matches!(role, Role::Joined) => Some(operand_than(found)),
         Form::Integer | Form::Boolean => Some(other_than(found)),
         Form::Array => Some(match found {
             _ if is_assigned => Fact::ArrayAssigned,
@@ -291,6 +292,38 @@ fn other_than(found: Form) -> Fact {
         Form::Array | Form::Record => Fact::OtherWhole,
         Form::Unknown => Fact::OtherUnknown,
     }
+}
+
+/// The same of the first operand of several.
+fn operand_than(found: Form) -> Fact {
+    match found {
+        Form::Array => Fact::ArrayThere,
+        Form::Record => Fact::RecordThere,
+        _ => other_than(found),
+    }
+}
+
+/// Notes a whole array or a whole record that stands before the place.
+pub fn note_whole(
+    facts: &mut Vec<Fact>,
+    alloc: Global,
+    site: &Site<'_, '_>,
+) -> Result<(), AllocError>
+    ensures { OnOk result (facts.new.items ≡ with_whole facts.old.items (form_ended (scene_of site.now))) }
+{
+    match form_ended(alloc, site)? {
+        Form::Array => note(facts, true, Fact::ArrayBefore),
+        Form::Record => note(facts, true, Fact::RecordBefore),
+        _ => Ok(()),
+    }
+}
+
+/// Of which type what stands before the place is, by the tokens up to there.
+fn form_ended(alloc: Global, site: &Site<'_, '_>) -> Result<Form, AllocError>
+    ensures { IfOk result (λ form. form ≡ form_ended (scene_of site.now)) }
+{
+    let tokens: Vec<Token> = site.before.iter().rev().copied().collect(alloc)?;
+    form_before(alloc, site.text, site.known, &tokens, site.before)
 }
 
 /// Whether operands and operators on them lead to a relation.

@@ -1,5 +1,7 @@
 -- Of which type an operand is, by the tokens beside a place and the declaration of its name.
-use Rattle.std.specs.Prelude.{ℕ, ◌&&◌, ◌||◌, not, Bool, false, List, [], ◌∷◌, bytes_eq, codes, Option, Some, None, if◌then◌else◌}
+use Rattle.std.specs.Prelude.{ℕ, ◌&&◌, ◌||◌, not, Bool, true, false, List, [], ◌∷◌, bytes_eq, codes, find, Option, Some, None, if◌then◌else◌}
+use Rattle.ob_scan.specs.declared.token.Kind.{Kind}
+use Rattle.ob_scan.specs.declared.token.Kind.TheVariants as Kinds
 use Rattle.ob_scan.specs.declared.token.Token.{Token}
 use Rattle.ob_explain_names.specs.Lookup.{name_at}
 use Rattle.ob_explain_names.specs.declared.known.Known.{Known}
@@ -7,14 +9,15 @@ use Rattle.ob_explain_names.specs.declared.known.Sort.{Sort}
 use Rattle.ob_explain_names.specs.declared.known.Sort.TheVariants as Sorts
 use Rattle.ob_explain_names.specs.Around as Tokens
 use Rattle.ob_explain_names.specs.Declarations.{declared_as, first_of, is_there}
-use Rattle.ob_explain_names.specs.Kinds.{is_array, is_comma, is_left, is_name, is_not, is_number, is_record, is_relation, is_right, is_semicolon, is_sign}
+use Rattle.ob_explain_names.specs.Kinds.{is_array, is_comma, is_left, is_name, is_not, is_number, is_record, is_relation, is_right, is_semicolon, is_sign, multiplies}
 use Rattle.ob_explain_names.specs.Numerals.{numeral_behind}
+use Rattle.ob_explain_parts.specs.Inside.{has_truth}
 use Rattle.ob_explain_parts.specs.Parts.{is_value, operand_start, selected}
 use Rattle.ob_explain_parts.specs.Types.{declared_type, meant}
 use Rattle.ob_explain_parts.specs.declared.forms.Form.{Form}
 use Rattle.ob_explain_parts.specs.declared.forms.Form.TheVariants.{Integer, Boolean, Single, Array, Record, Unknown}
 use Rattle.ob_explain_parts.specs.declared.forms.Role.{Role}
-use Rattle.ob_explain_parts.specs.declared.forms.Role.TheVariants.{Compared, Actual, Other}
+use Rattle.ob_explain_parts.specs.declared.forms.Role.TheVariants.{Compared, Actual, Joined, Other}
 use Rattle.ob_explain_names.specs.declared.numerals.Numeral.{Numeral}
 use Rattle.ob_explain_parts.specs.declared.parts.Selection.{Selection}
 use Rattle.ob_explain_parts.specs.declared.parts.Selecting.TheVariants.{Part}
@@ -92,12 +95,26 @@ form_from text known tokens (Some t) = operand_form text known tokens t
 abbrev pub form_before : (text : List ℕ) → List Known → List Token → (before : List Token) → Form
 form_before text known tokens before = form_from text known tokens (operand_start 0 None before)
 
--- of what begins with these tokens, which is of the type of its first operand
-abbrev pub form_behind : (text : List ℕ) → List Known → List Token → (behind : List Token) → Form
-form_behind text known tokens (t ∷ rest) =
+-- of what begins with this token and has no parentheses around it: behind `~` a BOOLEAN, behind a sign an INTEGER
+abbrev pub form_at : (text : List ℕ) → List Known → List Token → Option Token → Form
+form_at text known tokens None = Unknown
+form_at text known tokens (Some t) =
     if is_not t.kind then Boolean
     else if is_sign t.kind then Integer
     else operand_form text known tokens t
+
+abbrev pub is_inside : Token → Bool
+is_inside t = not (is_left t.kind)
+
+-- of what stands in parentheses, of the tokens behind the `(`: `(a = 1)` is a BOOLEAN, and `((a) + 1)` is of the type of a
+abbrev pub form_inside : (text : List ℕ) → List Known → List Token → (inside : List Token) → Form
+form_inside text known tokens inside =
+    if has_truth 0 inside then Boolean else form_at text known tokens (find is_inside inside)
+
+-- of what begins with these tokens, which is of the type of its first operand
+abbrev pub form_behind : (text : List ℕ) → List Known → List Token → (behind : List Token) → Form
+form_behind text known tokens (t ∷ rest) =
+    if is_left t.kind then form_inside text known tokens rest else form_at text known tokens (Some t)
 form_behind text known tokens [] = Unknown
 
 -- the other one of the two types of single values; where a whole array or record is wanted it is one of both
@@ -129,11 +146,21 @@ abbrev pub ends_actual : (next : Option Token) → Bool
 ends_actual None = false
 ends_actual (Some t) = is_comma t.kind || is_right t.kind
 
+-- + - OR * DIV MOD &
+abbrev pub joins : Kind → Bool
+joins Kinds.Or = true
+joins kind = is_sign kind || multiplies kind
+
+abbrev pub joins_there : Option Token → Bool
+joins_there None = false
+joins_there (Some t) = joins t.kind
+
 -- of an operand behind these tokens, the last one first, behind which that one stands
 abbrev pub role_between : (before : List Token) → (next : Option Token) → Role
 role_between before next =
     if is_relation_there (first_of before) || is_relation_there next then Compared
     else if begins_actual before && ends_actual next then Actual
+    else if joins_there next then Joined
     else Other
 
 -- the token behind an operand that begins with the first of these

@@ -4,3 +4,4 @@ pub mod Parts
 pub mod FieldNames
 pub mod Forms
 pub mod Parameters
+pub mod Inside

@@ -1,25 +1,27 @@
 //! Of which type an operand is, by the tokens beside a place and the declaration of its name.
 
-ghost use Rattle.std.specs.Prelude.{◌≡◌, IfOk};
+ghost use Rattle.std.specs.Prelude.{◌≡◌, IfOk, find};
 ghost use Rattle.ob_explain_names.specs.Declarations.{declared_as};
-ghost use Rattle.ob_explain_parts.specs.Forms.{begins_actual, behind_operand, constant_form, ends_actual, form_before, form_behind, form_by};
-ghost use Rattle.ob_explain_parts.specs.Forms.{form_instead, form_of_name, form_of_type, is_own, is_relation_there, operand_form, or_single, other};
+ghost use Rattle.ob_explain_parts.specs.Forms.{begins_actual, behind_operand, constant_form, ends_actual, form_at, form_before, form_behind, form_by};
+ghost use Rattle.ob_explain_parts.specs.Forms.{form_inside, form_instead, form_of_name, form_of_type, is_inside, is_own, is_relation_there, joins, joins_there};
+ghost use Rattle.ob_explain_parts.specs.Forms.{operand_form, or_single, other};
 ghost use Rattle.ob_explain_parts.specs.Forms.{other_of, own_form, role_between, role_of, told_form, truth_behind, truth_form, type_form};
 ghost use Rattle.ob_explain_parts.specs.Forms.{variable_at};
 
+use crate::inside::has_truth;
 use crate::parts::{Selection, is_value, operand_start, selected};
 use crate::types::{Standing, declared_type, meant};
 use ob_explain_names::around::tokens_behind;
 use ob_explain_names::declarations::{declared_as, first_of, is_declared};
 use ob_explain_names::kinds::{
     is_array, is_comma, is_left, is_name, is_not, is_number, is_record, is_relation, is_right,
-    is_semicolon, is_sign,
+    is_semicolon, is_sign, multiplies,
 };
 use ob_explain_names::known::{Known, Sort};
 use ob_explain_names::lookup::name_at;
 use ob_explain_names::numerals::{Numeral, numeral_behind};
 use ob_messages::words::is_same;
-use ob_scan::Token;
+use ob_scan::{Kind, Token};
 use std::alloc::{AllocError, Global};
 
 /// What is told of a type.
@@ -43,6 +45,8 @@ pub enum Role {
     Compared,
     /// A whole actual of a call.
     Actual,
+    /// The first of several, with an operator behind it.
+    Joined,
     Other,
 }
 
@@ -72,7 +76,57 @@ pub fn form_behind(
 ) -> Result<Form, AllocError>
     ensures { IfOk result (λ form. form ≡ form_behind text.now known.now tokens.now behind.now) }
 {
-    let [first, ..] = behind else {
+    let [first, rest @ ..] = behind else {
+        return Ok(Form::Unknown);
+    };
+    if is_left(first.kind) {
+        form_inside(alloc, text, known, tokens, rest)
+    } else {
+        form_at(alloc, text, known, tokens, Some(*first))
+    }
+}
+
+/// Of what stands in parentheses, of the tokens behind the `(`.
+fn form_inside(
+    alloc: Global,
+    text: &[u8],
+    known: &[Known],
+    tokens: &[Token],
+    inside: &[Token],
+) -> Result<Form, AllocError>
+    ensures { IfOk result (λ form. form ≡ form_inside text.now known.now tokens.now inside.now) }
+{
+    if has_truth(inside) {
+        Ok(Form::Boolean)
+    } else {
+        form_at(alloc, text, known, tokens, first_inside(inside))
+    }
+}
+
+/// The first token behind all `(` with which these begin.
+fn first_inside(inside: &[Token]) -> Option<Token>
+    ensures { result ≡ find is_inside inside.now }
+{
+    inside.iter().copied().find(|token| is_inside(*token))
+}
+
+fn is_inside(token: Token) -> bool
+    ensures { result ≡ is_inside token }
+{
+    !is_left(token.kind)
+}
+
+/// Of what begins with a token and has no parentheses around it.
+fn form_at(
+    alloc: Global,
+    text: &[u8],
+    known: &[Known],
+    tokens: &[Token],
+    first: Option<Token>,
+) -> Result<Form, AllocError>
+    ensures { IfOk result (λ form. form ≡ form_at text.now known.now tokens.now first) }
+{
+    let Some(first) = first else {
         return Ok(Form::Unknown);
     };
     if is_not(first.kind) {
@@ -80,7 +134,7 @@ pub fn form_behind(
     } else if is_sign(first.kind) {
         Ok(Form::Integer)
     } else {
-        operand_form(alloc, text, known, tokens, *first)
+        operand_form(alloc, text, known, tokens, first)
     }
 }
 
@@ -143,6 +197,8 @@ fn role_between(before: &[Token], next: Option<Token>) -> Role
         Role::Compared
     } else if begins_actual(before) && ends_actual(next) {
         Role::Actual
+    } else if joins_there(next) {
+        Role::Joined
     } else {
         Role::Other
     }
@@ -172,6 +228,25 @@ fn is_relation_there(token: Option<Token>) -> bool
     match token {
         Some(token) => is_relation(token.kind),
         None => false,
+    }
+}
+
+fn joins_there(token: Option<Token>) -> bool
+    ensures { result ≡ joins_there token }
+{
+    match token {
+        Some(token) => joins(token.kind),
+        None => false,
+    }
+}
+
+/// Whether an operator joins operands to another one of their type.
+fn joins(kind: Kind) -> bool
+    ensures { result ≡ joins kind }
+{
+    match kind {
+        Kind::Or => true,
+        _ => is_sign(kind) || multiplies(kind),
     }
 }
 

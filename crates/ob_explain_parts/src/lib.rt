@@ -4,6 +4,7 @@
 pub mod field_names;
 pub mod fields;
 pub mod forms;
+mod inside;
 pub mod parameters;
 pub mod parts;
 pub mod types;

@@ -20,8 +20,8 @@ use Rattle.ob_messages.specs.declared.table.WhenOf.TheVariants as when
 use Rattle.ob_messages.specs.declared.construct_rows.TheConstants.{CONSTRUCT_ROWS, MISSING_ROWS}
 use Rattle.ob_messages.specs.declared.function_rows.TheConstants.{FUNCTION_ROWS}
 use Rattle.ob_messages.specs.declared.sentence_rows.TheConstants.{END_ROWS, LIMIT_ROWS, SENTENCE_ROWS, TYPE_ROWS}
-use Rattle.ob_messages.specs.declared.token_rows.TheConstants.{DECLARATION_ROWS, RULE_ROWS, SIGN_ROWS, STATEMENT_ROWS}
-use Rattle.ob_messages.specs.declared.word_rows.TheConstants.{BYTE_ROWS, NAME_ROWS, WORD_ROWS}
+use Rattle.ob_messages.specs.declared.token_rows.TheConstants.{DECLARATION_ROWS, RULE_ROWS, SEPARATOR_ROWS, SIGN_ROWS, STATEMENT_ROWS, SYMBOL_ROWS, TYPE_TOKEN_ROWS}
+use Rattle.ob_messages.specs.declared.word_rows.TheConstants.{BYTE_ROWS, NAME_ROWS, PLACED_WORD_ROWS, WORD_ROWS}
 
 -- ---- rows, without where their texts and lists lie in memory
 
@@ -97,11 +97,29 @@ sign_rows = map (λ row. record {
   said = map (λ p. piece_by (λ text. text.now) p) row.said.now;
 }) SIGN_ROWS.now
 
+unfoldable pub symbol_rows : List Row
+symbol_rows = map (λ row. record {
+  when = map (λ w. when_by (λ text. text.now) (λ texts. map (λ text. text.now) texts.now) (λ kinds. kinds.now) w) row.when.now;
+  said = map (λ p. piece_by (λ text. text.now) p) row.said.now;
+}) SYMBOL_ROWS.now
+
 unfoldable pub statement_rows : List Row
 statement_rows = map (λ row. record {
   when = map (λ w. when_by (λ text. text.now) (λ texts. map (λ text. text.now) texts.now) (λ kinds. kinds.now) w) row.when.now;
   said = map (λ p. piece_by (λ text. text.now) p) row.said.now;
 }) STATEMENT_ROWS.now
+
+unfoldable pub separator_rows : List Row
+separator_rows = map (λ row. record {
+  when = map (λ w. when_by (λ text. text.now) (λ texts. map (λ text. text.now) texts.now) (λ kinds. kinds.now) w) row.when.now;
+  said = map (λ p. piece_by (λ text. text.now) p) row.said.now;
+}) SEPARATOR_ROWS.now
+
+unfoldable pub type_token_rows : List Row
+type_token_rows = map (λ row. record {
+  when = map (λ w. when_by (λ text. text.now) (λ texts. map (λ text. text.now) texts.now) (λ kinds. kinds.now) w) row.when.now;
+  said = map (λ p. piece_by (λ text. text.now) p) row.said.now;
+}) TYPE_TOKEN_ROWS.now
 
 unfoldable pub declaration_rows : List Row
 declaration_rows = map (λ row. record {
@@ -132,6 +150,12 @@ word_rows = map (λ row. record {
   when = map (λ w. when_by (λ text. text.now) (λ texts. map (λ text. text.now) texts.now) (λ kinds. kinds.now) w) row.when.now;
   said = map (λ p. piece_by (λ text. text.now) p) row.said.now;
 }) WORD_ROWS.now
+
+unfoldable pub placed_word_rows : List Row
+placed_word_rows = map (λ row. record {
+  when = map (λ w. when_by (λ text. text.now) (λ texts. map (λ text. text.now) texts.now) (λ kinds. kinds.now) w) row.when.now;
+  said = map (λ p. piece_by (λ text. text.now) p) row.said.now;
+}) PLACED_WORD_ROWS.now
 
 unfoldable pub name_rows : List Row
 name_rows = map (λ row. record {
@@ -216,11 +240,18 @@ sentence_by other view = option_or (first view sentence_rows) (first view limit_
 abbrev pub sentence_of : View → Option (List Piece)
 sentence_of view = sentence_by view.number view
 
+-- by the tokens around a place
+abbrev pub of_tokens : View → Option (List Piece)
+of_tokens view =
+    option_or (option_or (first view sign_rows) (first view symbol_rows))
+    (option_or (option_or (first view statement_rows) (first view separator_rows)) (option_or (first view type_token_rows) (first view declaration_rows)))
+
 abbrev pub token_hint : View → Option (List Piece)
 token_hint view =
     option_or (first view function_rows)
-    (option_or (option_or (first view sign_rows) (option_or (first view statement_rows) (first view declaration_rows)))
-    (option_or (first view construct_rows) (option_or (first view word_rows) (first view missing_rows))))
+    (option_or (of_tokens view)
+    (option_or (first view construct_rows)
+    (option_or (option_or (first view placed_word_rows) (first view word_rows)) (first view missing_rows))))
 
 abbrev pub hint_by : Number → View → Option (List Piece)
 hint_by number.S1 view = first view byte_rows

@@ -1,6 +1,6 @@
 //! Hints on constructs that are open or closed at a place, on two tokens that stand for one, and on what may be missing.
 
-use crate::table::WhenOf::{Here, Is, Last, Not};
+use crate::table::WhenOf::{Could, Here, Is, Last, Next, Not};
 use crate::table::{Fact, Piece, PieceOf, Row};
 use crate::word_rows::NO_SHIFT;
 use ob_scan::Kind;
@@ -18,6 +18,8 @@ const REPEAT_END: &[Piece] = &[PieceOf::Text(
 
 const SHIFT: &[Piece] = &[PieceOf::Text(NO_SHIFT)];
 
+const NO_COMMA: &[Piece] = &[PieceOf::Text("is a , missing before it?")];
+
 const THE: Piece = PieceOf::Text("the ");
 
 const OF_LINE: Piece = PieceOf::Text(" of line ");
@@ -26,6 +28,10 @@ const OPEN: Piece = PieceOf::Text(" is still open; is its END missing?");
 
 const OPEN_REPEAT: Piece = PieceOf::Text(
     " is still open; is its UNTIL missing? A REPEAT has no END",
+);
+
+const HAS_ELSE: Piece = PieceOf::Text(
+    " has an ELSE, behind which no other case of it stands; is its END missing?",
 );
 
 const END_CLOSES: Piece = PieceOf::Text("the END before it closes the ");
@@ -54,6 +60,7 @@ pub const CONSTRUCT_ROWS: &[Row] = rows! {
     [Is(Fact::StillOpen), Is(Fact::OpenRepeat)] => &[THE, PieceOf::Opening, OF_LINE, PieceOf::Line, OPEN_REPEAT];
     [Is(Fact::StillOpen), Is(Fact::InnerIf)] =>
         &[THE, PieceOf::Opening, OF_LINE, PieceOf::Line, OPEN, ELSE_IF, PieceOf::OtherLine, OTHER_IF];
+    [Is(Fact::StillOpen), Is(Fact::BehindElse)] => &[THE, PieceOf::Opening, OF_LINE, PieceOf::Line, HAS_ELSE];
     [Is(Fact::StillOpen)] => &[THE, PieceOf::Opening, OF_LINE, PieceOf::Line, OPEN];
     [Is(Fact::NoIf)] => &[PieceOf::Text("no IF is open here; is one END too many before it?")];
     [Is(Fact::NoBracket)] => &[PieceOf::Text("is a ] missing before it?")];
@@ -86,10 +93,13 @@ pub const CONSTRUCT_ROWS: &[Row] = rows! {
     )];
 };
 
-/// The end of a loop, and what else may be missing; not behind a call of a name that no procedure has.
+/// The end of a loop, and what else may be missing, up to the module; not behind a call of a name that no procedure has.
 pub const MISSING_ROWS: &[Row] = rows! {
     [Is(Fact::RepeatEnd)] => REPEAT_END;
     [Not(Fact::UndeclaredCall), Is(Fact::NoThen)] => &[PieceOf::Text("is THEN missing before it?")];
     [Not(Fact::UndeclaredCall), Is(Fact::NoDo)] => &[PieceOf::Text("is DO missing before it?")];
     [Not(Fact::UndeclaredCall), Is(Fact::NoSemicolon)] => &[PieceOf::Text("is a ; missing before it?")];
+    [Is(Fact::NoComma), Could(&[Kind::RightParen]), Is(Fact::ClosedBehind)] => NO_COMMA;
+    [Is(Fact::NoComma), Could(&[Kind::Colon]), Next(&[Kind::Colon, Kind::Comma])] => NO_COMMA;
+    [Could(&[Kind::Module])] => &[PieceOf::Text("a text is one module: MODULE M; .. END M.")];
 };

@@ -3,15 +3,19 @@
 ghost use Rattle.std.specs.Prelude.{◌≡◌, map, option_map};
 ghost use Rattle.std.specs.List.{list_all, list_any};
 ghost use Rattle.ob_messages.specs.Rows.{byte_rows, construct_rows, declaration_rows, end_rows, first, function_rows, has, has_fact, has_word, hint_of, holds};
-ghost use Rattle.ob_messages.specs.Rows.{is_one, is_seen, is_word, limit_rows, missing_rows, name_rows, option_or, pieces_of, row_of, rule_rows};
-ghost use Rattle.ob_messages.specs.Rows.{sentence_of, sentence_rows, sign_rows, statement_rows, token_hint, type_rows, when_of, word_rows};
+ghost use Rattle.ob_messages.specs.Rows.{is_one, is_seen, is_word, limit_rows, missing_rows, name_rows, of_tokens, option_or, pieces_of, placed_word_rows};
+ghost use Rattle.ob_messages.specs.Rows.{row_of, rule_rows, sentence_of, sentence_rows, separator_rows, sign_rows, statement_rows, symbol_rows};
+ghost use Rattle.ob_messages.specs.Rows.{token_hint, type_rows, type_token_rows, when_of, word_rows};
 
 use crate::construct_rows::{CONSTRUCT_ROWS, MISSING_ROWS};
 use crate::function_rows::FUNCTION_ROWS;
 use crate::sentence_rows::{END_ROWS, LIMIT_ROWS, SENTENCE_ROWS, TYPE_ROWS};
 use crate::table::{Fact, Number, Piece, Row, When, WhenOf};
-use crate::token_rows::{DECLARATION_ROWS, RULE_ROWS, SIGN_ROWS, STATEMENT_ROWS};
-use crate::word_rows::{BYTE_ROWS, NAME_ROWS, WORD_ROWS};
+use crate::token_rows::{
+    DECLARATION_ROWS, RULE_ROWS, SEPARATOR_ROWS, SIGN_ROWS, STATEMENT_ROWS, SYMBOL_ROWS,
+    TYPE_TOKEN_ROWS,
+};
+use crate::word_rows::{BYTE_ROWS, NAME_ROWS, PLACED_WORD_ROWS, WORD_ROWS};
 use crate::words::is_same_in_any_case;
 use ob_scan::Kind;
 
@@ -63,14 +67,26 @@ pub(crate) fn hint_of(view: &View) -> Option<&'static [Piece]>
 fn token_hint(view: &View) -> Option<&'static [Piece]>
     ensures { option_map pieces_of result ≡ token_hint view.now }
 {
+    let of_word = either(first(placed_word_rows(), view), word_hint(view));
+    let of_text = either(of_word, first(missing_rows(), view));
+    let of_other = either(first(construct_rows(), view), of_text);
+    either(
+        first(function_rows(), view),
+        either(of_tokens(view), of_other),
+    )
+}
+
+/// The same by the tokens around it.
+fn of_tokens(view: &View) -> Option<&'static [Piece]>
+    ensures { option_map pieces_of result ≡ of_tokens view.now }
+{
+    let of_sign = either(first(sign_rows(), view), first(symbol_rows(), view));
+    let of_statement = either(first(statement_rows(), view), first(separator_rows(), view));
     let of_declaration = either(
-        first(statement_rows(), view),
+        first(type_token_rows(), view),
         first(declaration_rows(), view),
     );
-    let of_token = either(first(sign_rows(), view), of_declaration);
-    let of_word = either(word_hint(view), first(missing_rows(), view));
-    let of_other = either(of_token, either(first(construct_rows(), view), of_word));
-    either(first(function_rows(), view), of_other)
+    either(of_sign, either(of_statement, of_declaration))
 }
 
 /// The hint on a word of another language.
@@ -121,11 +137,32 @@ fn sign_rows() -> &'static [Row]
     SIGN_ROWS
 }
 
+#[tactic(auto, unfolding(crate::specs::Rows::symbol_rows))]
+fn symbol_rows() -> &'static [Row]
+    ensures { map row_of result.now ≡ symbol_rows }
+{
+    SYMBOL_ROWS
+}
+
 #[tactic(auto, unfolding(crate::specs::Rows::statement_rows))]
 fn statement_rows() -> &'static [Row]
     ensures { map row_of result.now ≡ statement_rows }
 {
     STATEMENT_ROWS
+}
+
+#[tactic(auto, unfolding(crate::specs::Rows::separator_rows))]
+fn separator_rows() -> &'static [Row]
+    ensures { map row_of result.now ≡ separator_rows }
+{
+    SEPARATOR_ROWS
+}
+
+#[tactic(auto, unfolding(crate::specs::Rows::type_token_rows))]
+fn type_token_rows() -> &'static [Row]
+    ensures { map row_of result.now ≡ type_token_rows }
+{
+    TYPE_TOKEN_ROWS
 }
 
 #[tactic(auto, unfolding(crate::specs::Rows::declaration_rows))]
@@ -161,6 +198,13 @@ fn word_rows() -> &'static [Row]
     ensures { map row_of result.now ≡ word_rows }
 {
     WORD_ROWS
+}
+
+#[tactic(auto, unfolding(crate::specs::Rows::placed_word_rows))]
+fn placed_word_rows() -> &'static [Row]
+    ensures { map row_of result.now ≡ placed_word_rows }
+{
+    PLACED_WORD_ROWS
 }
 
 #[tactic(auto, unfolding(crate::specs::Rows::name_rows))]

@@ -1,6 +1,6 @@
 //! The sentences, of each fault the first that holds, and their ends.
 
-use crate::table::WhenOf::{Here, Is, Last, Next, On};
+use crate::table::WhenOf::{Here, Is, Last, Never, Next, On};
 use crate::table::{Fact, Number, Piece, PieceOf, Row};
 use ob_scan::Kind;
 
@@ -13,6 +13,10 @@ macro_rules! rows {
 
 const NO_NUMBERS: Piece = PieceOf::Text("this operator takes INTEGERs");
 
+const BEHIND: Piece = PieceOf::Text(" behind the name `");
+
+const QUOTE: Piece = PieceOf::Text("`");
+
 const ANOTHER_TYPE: Piece = PieceOf::Text(
     "this is of another type than the one that is needed here",
 );
@@ -24,6 +28,7 @@ pub const SENTENCE_ROWS: &[Row] = rows! {
     [On(Number::S3)] => PieceOf::Text("this comment has no end; comments nest, and each (* has its own *)");
     [On(Number::S4)] => PieceOf::Text("a name has at most 64 characters");
     [On(Number::S5)] => PieceOf::Text("a module has at most 65536 bytes");
+    [On(Number::P1), Is(Fact::ModuleEnded)] => PieceOf::Text("the module ends with the . before it, and only comments stand behind that");
     [On(Number::P1), Is(Fact::Expected)] => PieceOf::Text("expected "), PieceOf::Could;
     [On(Number::P1)] => PieceOf::Text("the module can't go on like this; look here, and at what stands just before it");
     [On(Number::P2)] => PieceOf::Text("this stands within 100 other constructs, and no more nest");
@@ -36,7 +41,11 @@ pub const SENTENCE_ROWS: &[Row] = rows! {
     [On(Number::C2), Is(Fact::Before)] =>
         PieceOf::Text("a name is declared once in a scope, and this one is declared before, in line "), PieceOf::Line;
     [On(Number::C2)] => PieceOf::Text("a name is declared once in a scope");
+    [On(Number::C3), Here(&[Kind::LeftBracket]), Is(Fact::RecordBefore)] =>
+        PieceOf::Text("an index stands only behind an array, and what stands before it is a whole record");
     [On(Number::C3), Here(&[Kind::LeftBracket])] => PieceOf::Text("an index stands only behind an array, and this is none");
+    [On(Number::C3), Here(&[Kind::Dot]), Is(Fact::ArrayBefore)] =>
+        PieceOf::Text("a field stands only behind a record, and what stands before it is a whole array");
     [On(Number::C3), Here(&[Kind::Dot])] => PieceOf::Text("a field stands only behind a record, and this is none");
     [On(Number::C3), Here(&[Kind::Array, Kind::Record])] => PieceOf::Text("the type of a parameter is told by its name; declare it behind TYPE");
     [On(Number::C3), Is(Fact::Constant)] => PieceOf::Text("this is a constant");
@@ -57,6 +66,10 @@ pub const LIMIT_ROWS: &[Row] = rows! {
     [On(Number::C5)] => PieceOf::Text("a constant has no variables in it");
     [On(Number::C6), Is(Fact::First)] => PieceOf::Text("an array has 1 to 4096 elements, and the length of this one is "), PieceOf::First;
     [On(Number::C6)] => PieceOf::Text("an array has 1 to 4096 elements");
+    [On(Number::C7), Last(&[Kind::LeftParen, Kind::Comma]), Is(Fact::Variable)] =>
+        PieceOf::Text("a parameter with VAR takes a variable alone, and this one begins an expression");
+    [On(Number::C7), Last(&[Kind::LeftParen, Kind::Comma]), Is(Fact::Constant)] =>
+        PieceOf::Text("a parameter with VAR takes a variable, and this is a constant");
     [On(Number::C7), Last(&[Kind::LeftParen, Kind::Comma])] => PieceOf::Text("a parameter with VAR takes a variable, and nothing else");
     [On(Number::C7), Is(Fact::Procedure)] =>
         PieceOf::Text("this call has "), PieceOf::Count, PieceOf::Text(" actual"), PieceOf::CountEnd,
@@ -116,6 +129,9 @@ pub const TYPE_ROWS: &[Row] = rows! {
 
 /// Ends of sentences.
 pub const END_ROWS: &[Row] = rows! {
+    [On(Number::P1), Is(Fact::Expected), Last(&[Kind::Ident]), Here(&[Kind::Ident]), Never(&[Kind::And])] => BEHIND, PieceOf::Name, QUOTE;
+    [On(Number::P1), Is(Fact::Expected), Last(&[Kind::Ident]), Is(Fact::Foreign)] => BEHIND, PieceOf::Name, QUOTE;
+    [On(Number::P1), Is(Fact::Expected), Last(&[Kind::Ident]), Is(Fact::KeywordBefore)] => BEHIND, PieceOf::Name, QUOTE;
     [On(Number::C1), Is(Fact::Near)] => PieceOf::Text("; did you mean `"), PieceOf::Name, PieceOf::Text("`?");
     [On(Number::C3), Is(Fact::Named), Last(&[Kind::Colon, Kind::Of])] => PieceOf::Text(", and the name of a type is needed here");
     [

@@ -33,10 +33,17 @@ pub enum Fact {
     /// A number ends before it, or a minus.
     BehindDigits,
     BehindMinus,
+    /// A `:`, a `=` or an OF stands before it.
+    TypeAwaited,
     /// Some token could stand there.
     Expected,
-    /// A name is meant to be a keyword; it is one but for small letters.
+    /// A keyword stands there.
+    KeywordThere,
+    /// It stands behind the END, the name and the `.` of the module.
+    ModuleEnded,
+    /// A name is meant to be a keyword, and it is the one before; it is one but for small letters.
     Keyword,
+    KeywordBefore,
     SmallKeyword,
     /// The last token and the one there touch.
     Touching,
@@ -50,9 +57,14 @@ pub enum Fact {
     Heading,
     /// It stands in no procedure and no statement.
     InModule,
-    /// The word before is the name of a type; the one there is.
+    /// A `)` behind it closes what is open there.
+    ClosedBehind,
+    /// A BEGIN stands there, and the END that closes it has no name behind it.
+    Block,
+    /// The word before is the name of a type; the one there is; the next one is.
     TypeBefore,
     TypeThere,
+    TypeNext,
     /// The END before closes a module or a procedure; an UNTIL ended the last statement in it.
     UnitEnded,
     UntilBefore,
@@ -63,8 +75,9 @@ pub enum Fact {
     /// A construct is still open, and it is a REPEAT.
     StillOpen,
     OpenRepeat,
-    /// An IF behind an ELSE stands in it.
+    /// An IF behind an ELSE stands in it; it has its own ELSE before.
     InnerIf,
+    BehindElse,
     /// No IF is open.
     NoIf,
     /// A REPEAT is to end there.
@@ -75,15 +88,17 @@ pub enum Fact {
     NoSemicolon,
     NoBracket,
     NoParen,
+    NoComma,
     /// A call ends there whose name no procedure has.
     UndeclaredCall,
     /// A name that is near, that is needed, or that stands for this.
     Near,
     Named,
-    /// A procedure of this name is declared further down.
+    /// A constant, a type or a procedure of this name is declared further down.
     FurtherDown,
-    /// A field has this name.
+    /// A field has this name; a variable of a procedure that has ended has it.
     Field,
+    Elsewhere,
     /// The word is a type of numbers of another language.
     NumberType,
     /// The name stands in a record; it is declared before.
@@ -94,6 +109,9 @@ pub enum Fact {
     TypeName,
     Variable,
     Procedure,
+    /// What stands before it is a whole array, or a whole record.
+    ArrayBefore,
+    RecordBefore,
     /// The operand of another type stands before the operator, behind it, or on a side that is not known.
     WrongBefore,
     WrongBehind,

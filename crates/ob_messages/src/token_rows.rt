@@ -2,7 +2,7 @@
 
 use crate::table::WhenOf::{Could, Here, Is, Last, Never, Next, Not, On, Second, Sign, Word};
 use crate::table::{Fact, Number, Piece, PieceOf, Row};
-use crate::word_rows::{NO_REAL, NO_SHIFT};
+use crate::word_rows::{NO_FOR, NO_POINTER, NO_REAL, NO_SHIFT};
 use ob_scan::Kind;
 
 /// A table: in each row conditions, and what is said.
@@ -20,6 +20,30 @@ const INDEX: &[Piece] = &[PieceOf::Text("an element of an array is written a[i]"
 
 const CHANGE: &[Piece] = &[PieceOf::Text("a variable is changed by an assignment: x := x + 1")];
 
+const NO_BITS: &[Piece] = &[PieceOf::Text(
+    "& is the and of two BOOLEANs; there are no operations on the bits of a number",
+)];
+
+const NO_COMMENT: &[Piece] = &[PieceOf::Text(
+    "no comment is open here; comments nest, and each (* has its own *)",
+)];
+
+/// Operators between operands.
+const OPERATORS: &[Kind] = &[
+    Kind::Plus,
+    Kind::Minus,
+    Kind::Times,
+    Kind::Div,
+    Kind::Mod,
+    Kind::And,
+    Kind::Or,
+    Kind::NotEqual,
+    Kind::Less,
+    Kind::LessOrEqual,
+    Kind::Greater,
+    Kind::GreaterOrEqual,
+];
+
 const COMPARISON: &[Piece] = &[PieceOf::Text(
     "a comparison beside another one, or beside & or OR, stands in parentheses: (a > 0) & (b < 5)",
 )];
@@ -29,7 +53,7 @@ const LEADER: &[Piece] = &[PieceOf::Text(
 )];
 
 const ORDER: &[Piece] = &[PieceOf::Text(
-    "declarations stand before BEGIN, in this order: CONST, TYPE, VAR, procedures",
+    "declarations stand before BEGIN, in this order, each word once: CONST, TYPE, VAR, and then procedures",
 )];
 
 const NO_SEMICOLON: &[Piece] = &[PieceOf::Text(
@@ -58,15 +82,55 @@ const ACTUALS: &[Piece] = &[PieceOf::Text(
     "the actuals of a call stand in parentheses, as P(a, 1)",
 )];
 
-/// Names that are meant to be keywords, and signs.
+const POINTER: &[Piece] = &[PieceOf::Text(NO_POINTER)];
+
+const NO_BLOCK: &[Piece] = &[PieceOf::Text(
+    "there are no blocks: in a body, and behind THEN, ELSE, DO and REPEAT, statements stand without a BEGIN of their own",
+)];
+
+const NAME: &[Piece] = &[PieceOf::Text("a keyword is no name; take another one")];
+
+const RANGE: &[Piece] = &[PieceOf::Text(
+    "there are no ranges and no slices; one element is written a[i], and several are taken in a WHILE",
+)];
+
+const HANDED: &[Piece] = &[PieceOf::Text(
+    "a variable is handed over by its name alone, as P(x); the VAR stands in the heading of P",
+)];
+
+const IN_BODY: &[Piece] = &[PieceOf::Text(
+    "variables are declared before BEGIN, behind VAR, the name before its type: VAR x: INTEGER;",
+)];
+
+const SEPARATED: &[Piece] = &[PieceOf::Text(
+    "statements are separated by ;, and each assigns one variable: x := 1; y := 2",
+)];
+
+const FOREIGN_CALL: &[Piece] = &[PieceOf::Text(
+    "there are no methods and no other modules; a call begins with the name of a procedure of this module, as P(a, 1)",
+)];
+
+/// Names that are meant to be keywords, calls, and what stands behind a heading.
 pub const SIGN_ROWS: &[Row] = rows! {
     [Is(Fact::Keyword), Word(&["XOR"])] => &[PieceOf::Text("there is no XOR; of two BOOLEANs a # b says that one is TRUE and one is not")];
     [Is(Fact::Keyword)] => &[PieceOf::Text("did you mean "), PieceOf::Keyword, PieceOf::Text("?")];
+    [Here(&[Kind::Semicolon]), Could(&[Kind::RightParen]), Word(&["FOR", "FOREACH"])] => &[PieceOf::Text(NO_FOR)];
+    [Here(&[Kind::LeftParen]), Last(&[Kind::Ident]), Second(&[Kind::Dot]), Is(Fact::NoArray)] => FOREIGN_CALL;
+    [Here(&[Kind::LeftParen]), Could(&[Kind::LeftBracket]), Word(&["INTEGER", "BOOLEAN", "INT", "BOOL"])] => &[PieceOf::Text(
+        "no type is made into another one; a BOOLEAN gives a number by IF b THEN x := 1 ELSE x := 0 END",
+    )];
     [Here(&[Kind::LeftParen]), Could(&[Kind::LeftBracket]), Not(Fact::Foreign), Is(Fact::NoArray)] => NO_FUNCTION;
     [Here(&[Kind::LeftParen]), Could(&[Kind::LeftBracket]), Not(Fact::Foreign)] => INDEX;
     [Here(&[Kind::Colon]), Next(&[Kind::Ident, Kind::Array, Kind::Record]), Is(Fact::Heading)] => NO_FUNCTION;
+    [Here(&[Kind::Ident]), Is(Fact::TypeThere), Is(Fact::Heading)] => NO_FUNCTION;
+    [Sign("->"), Is(Fact::Heading)] => NO_FUNCTION;
+    [Here(&[Kind::Ident]), Word(&["RETURNS"]), Is(Fact::Heading)] => NO_FUNCTION;
     [Here(&[Kind::Colon, Kind::Equal]), Is(Fact::Heading)] =>
         &[PieceOf::Text("the heading of a procedure ends with ;, as PROCEDURE P(k: INTEGER);")];
+};
+
+/// Signs in the place of an assignment, of a comparison or of a comment.
+pub const SYMBOL_ROWS: &[Row] = rows! {
     [Here(&[Kind::Assign]), Last(&[Kind::RightParen]), Never(&[Kind::And])] => INDEX;
     [Here(&[Kind::Equal]), Could(&[Kind::Assign])] => &[PieceOf::Text("= compares, and := assigns")];
     [Sign("<-"), Could(&[Kind::Assign])] => &[PieceOf::Text("an assignment is written with :=")];
@@ -75,6 +139,9 @@ pub const SIGN_ROWS: &[Row] = rows! {
     [Sign("+="), Could(&[Kind::Assign])] => CHANGE;
     [Sign("-="), Could(&[Kind::Assign])] => CHANGE;
     [Sign("*="), Could(&[Kind::Assign])] => CHANGE;
+    [Sign("->"), Could(&[Kind::Assign])] => &[PieceOf::Text("there are no pointers; a field is written behind its record, as r.f")];
+    [Here(&[Kind::Greater]), Last(&[Kind::Minus]), Is(Fact::Touching)] =>
+        &[PieceOf::Text("there are no pointers; a field is written behind its record, as r.f")];
     [Sign("<<="), Could(&[Kind::Assign])] => &[PieceOf::Text(NO_SHIFT)];
     [Sign(">>="), Could(&[Kind::Assign])] => &[PieceOf::Text(NO_SHIFT)];
     [
@@ -82,6 +149,10 @@ pub const SIGN_ROWS: &[Row] = rows! {
         Could(&[Kind::And]),
         Never(&[Kind::Equal])
     ] => COMPARISON;
+    [
+        Here(&[Kind::Plus, Kind::Minus]), Last(&[Kind::Plus, Kind::Minus]), Is(Fact::Touching),
+        Next(&[Kind::RightBracket, Kind::RightParen, Kind::Semicolon, Kind::End, Kind::Comma, Kind::Then, Kind::Do, Kind::Assign])
+    ] => CHANGE;
     [Here(&[Kind::Minus]), Last(&[Kind::Minus]), Is(Fact::Touching), Could(&[Kind::Number]), Never(&[Kind::Minus])] =>
         &[PieceOf::Text("a comment is written (* .. *); a sign behind an operator stands in parentheses, as 3 - (-k)")];
     [Here(&[Kind::Plus, Kind::Minus]), Could(&[Kind::Number]), Never(&[Kind::Minus])] => &[PieceOf::Text(
@@ -96,10 +167,32 @@ pub const SIGN_ROWS: &[Row] = rows! {
         &[PieceOf::Text("a comment is written (* .. *), and # is not equal")];
 };
 
-/// Tokens among statements, and words that stand between operands.
+/// Keywords as names, blocks, and tokens among statements.
 pub const STATEMENT_ROWS: &[Row] = rows! {
-    [Here(&[Kind::Begin]), Last(&[Kind::Then, Kind::Else, Kind::Do, Kind::Repeat])] =>
-        &[PieceOf::Text("there are no blocks: behind THEN, ELSE, DO and REPEAT statements stand without BEGIN")];
+    [Is(Fact::ModuleEnded), Here(&[Kind::Module])] => &[PieceOf::Text("a file has one module")];
+    [Is(Fact::KeywordThere), Last(&[Kind::Procedure, Kind::Module]), Could(&[Kind::Ident])] => NAME;
+    [
+        Is(Fact::KeywordThere),
+        Next(&[Kind::Colon, Kind::Comma, Kind::Equal, Kind::Assign]),
+        Could(&[Kind::Ident]),
+        Never(&[Kind::Number])
+    ] => NAME;
+    [Here(&[Kind::Colon]), Last(&[Kind::Begin, Kind::End, Kind::Procedure, Kind::Const, Kind::Type, Kind::Var])] =>
+        &[PieceOf::Text("the keyword before it is no name; take another one")];
+    [Here(&[Kind::Begin]), Last(&[Kind::Then, Kind::Else, Kind::Do, Kind::Repeat])] => NO_BLOCK;
+    [Here(&[Kind::Begin]), Could(&[Kind::While]), Is(Fact::Block)] => NO_BLOCK;
+    [Here(&[Kind::Begin]), Could(&[Kind::While]), Not(Fact::StillOpen)] => NO_BLOCK;
+    [Here(&[Kind::Do]), Could(&[Kind::While])] =>
+        &[PieceOf::Text("a loop whose condition stands behind it is written REPEAT .. UNTIL x = 3, and ends when that holds")];
+    [Here(&[Kind::Colon]), Last(&[Kind::Then, Kind::Else, Kind::Do, Kind::Repeat])] =>
+        &[PieceOf::Text("no : stands behind THEN, ELSE, DO and REPEAT")];
+    [Here(&[Kind::Colon, Kind::Begin]), Could(&[Kind::Then])] => LEADER;
+    [Here(&[Kind::Colon, Kind::Begin]), Could(&[Kind::Do])] => LEADER;
+    [Here(&[Kind::If]), Could(&[Kind::Number])] =>
+        &[PieceOf::Text("IF stands in no expression; write IF b THEN x := 1 ELSE x := 2 END")];
+    [Here(&[Kind::Semicolon]), Could(&[Kind::Dot]), Never(&[Kind::LeftBracket])] =>
+        &[PieceOf::Text("a . ends the module; a ; stands behind the name of a procedure that ends")];
+    [Here(&[Kind::Semicolon]), Last(&[Kind::Semicolon])] => &[PieceOf::Text("one ; is enough behind a declaration")];
     [Here(&[Kind::Then]), Could(&[Kind::Do])] => LEADER;
     [Here(&[Kind::Do]), Could(&[Kind::Then])] => LEADER;
     [Here(&[Kind::Procedure]), Could(&[Kind::While]), Is(Fact::InModule)] => ORDER;
@@ -109,6 +202,31 @@ pub const STATEMENT_ROWS: &[Row] = rows! {
         &[PieceOf::Text(":= is one symbol, with no blank in it")];
     [Here(&[Kind::Dot]), Last(&[Kind::Number]), Next(&[Kind::Number])] =>
         &[PieceOf::Text(NO_REAL)];
+};
+
+/// What separates statements and actuals, expressions as statements, parentheses, and words that stand between operands.
+pub const SEPARATOR_ROWS: &[Row] = rows! {
+    [Here(&[Kind::Colon]), Could(&[Kind::Assign]), Is(Fact::TypeNext)] => IN_BODY;
+    [Here(&[Kind::Colon]), Could(&[Kind::Assign]), Next(&[Kind::Array, Kind::Record])] => IN_BODY;
+    [Here(&[Kind::Colon]), Could(&[Kind::Assign])] => &[PieceOf::Text("an assignment is written with :=")];
+    [Here(&[Kind::Ident]), Could(&[Kind::Assign]), Is(Fact::TypeBefore)] => IN_BODY;
+    [Here(&[Kind::Comma]), Could(&[Kind::Assign])] => SEPARATED;
+    [Here(&[Kind::Comma, Kind::Colon]), Could(&[Kind::Semicolon, Kind::And, Kind::End])] => SEPARATED;
+    [Here(&[Kind::Comma, Kind::Colon]), Could(&[Kind::Semicolon, Kind::And, Kind::Until])] => SEPARATED;
+    [Here(&[Kind::Comma]), Could(&[Kind::Semicolon, Kind::And])] =>
+        &[PieceOf::Text("behind a constant stands ;, and then the next one: a = 1; b = 2")];
+    [Here(&[Kind::Semicolon]), Could(&[Kind::RightParen, Kind::Comma]), Is(Fact::ClosedBehind)] =>
+        &[PieceOf::Text("the actuals of a call are separated by commas, as P(a, 1)")];
+    [Here(&[Kind::And, Kind::Var]), Last(&[Kind::LeftParen, Kind::Comma]), Could(&[Kind::Number])] => HANDED;
+    [Sign("*)")] => NO_COMMENT;
+    [Here(&[Kind::RightParen]), Last(&[Kind::Times]), Is(Fact::Touching)] => NO_COMMENT;
+    [Here(&[Kind::Times]), Could(&[Kind::While])] => POINTER;
+    [Here(OPERATORS), Could(&[Kind::Assign]), Never(&[Kind::And])] =>
+        &[PieceOf::Text("an expression is no statement; an assignment keeps its value: x := x + 1")];
+    [Here(&[Kind::RightParen]), Is(Fact::Expected), Never(&[Kind::RightParen, Kind::Number, Kind::Colon, Kind::Ident])] =>
+        &[PieceOf::Text("is a ( missing before it, or is it one ) too many?")];
+    [Here(&[Kind::RightBracket]), Is(Fact::Expected), Never(&[Kind::RightBracket, Kind::Number, Kind::Ident])] =>
+        &[PieceOf::Text("is a [ missing before it, or is it one ] too many?")];
     [Sign("IN "), Could(&[Kind::And])] => &[PieceOf::Text("there are no sets and no IN; compare with each value, or ask an array of BOOLEANs")];
     [Sign("IS "), Could(&[Kind::And])] => &[PieceOf::Text("there is no IS; a variable has the one type of its declaration")];
     [Here(&[Kind::Ident]), Last(&[Kind::Number]), Is(Fact::Touching)] => &[PieceOf::Text(
@@ -116,14 +234,37 @@ pub const STATEMENT_ROWS: &[Row] = rows! {
     )];
 };
 
-/// Tokens in declarations and behind them, and actuals without parentheses.
-pub const DECLARATION_ROWS: &[Row] = rows! {
+/// Parameters, types, and ranges.
+pub const TYPE_TOKEN_ROWS: &[Row] = rows! {
     [Here(&[Kind::Comma]), Last(&[Kind::Ident]), Second(&[Kind::Colon, Kind::Of])] =>
         &[PieceOf::Text("behind a type stands ;, and then the next names: a: INTEGER; b: BOOLEAN")];
     [Here(&[Kind::Comma]), Could(&[Kind::RightBracket])] =>
         &[PieceOf::Text("a further index stands in brackets of its own: a[i][j]")];
     [Here(&[Kind::Comma]), Could(&[Kind::Of])] =>
         &[PieceOf::Text("an array of arrays is written ARRAY 2 OF ARRAY 3 OF INTEGER")];
+    [Here(&[Kind::Const]), Is(Fact::InParens), Could(&[Kind::Var])] =>
+        &[PieceOf::Text("a parameter without VAR has its name and its type alone, as x: INTEGER; what is handed over is copied")];
+    [Here(&[Kind::Var]), Last(&[Kind::Colon])] => &[PieceOf::Text("VAR stands before the name of the parameter: VAR x: INTEGER")];
+    [Here(&[Kind::RightParen]), Last(&[Kind::Semicolon]), Could(&[Kind::Var])] => &[PieceOf::Text("no ; stands before the ) of a heading")];
+    [Here(&[Kind::LeftParen]), Last(&[Kind::Procedure])] =>
+        &[PieceOf::Text("there are no methods; a record is handed over by a VAR parameter: PROCEDURE P(VAR r: R)")];
+    [Here(&[Kind::LeftParen]), Last(&[Kind::Record])] => &[PieceOf::Text("no record extends another one; it has its own fields alone")];
+    [Here(&[Kind::LeftParen]), Could(&[Kind::Array])] =>
+        &[PieceOf::Text("there are no enumerations; declare constants, as CONST red = 0; green = 1, and the variable as an INTEGER")];
+    [Here(&[Kind::Number]), Could(&[Kind::Array])] => &[PieceOf::Text("there are no ranges; the type of numbers is INTEGER")];
+    [Here(&[Kind::Times, Kind::And]), Could(&[Kind::Array])] => POINTER;
+    [Here(&[Kind::LeftBracket]), Could(&[Kind::Array])] => ARRAY_TYPE;
+    [Here(&[Kind::Of]), Last(&[Kind::Array]), Is(Fact::InParens)] =>
+        &[PieceOf::Text("there are no open arrays; declare the type, as TYPE A = ARRAY 4 OF INTEGER, and the parameter as VAR v: A")];
+    [Here(&[Kind::Dot]), Next(&[Kind::Dot]), Could(&[Kind::RightBracket])] => RANGE;
+    [Here(&[Kind::Dot]), Last(&[Kind::Dot]), Is(Fact::Touching), Is(Fact::Expected)] => RANGE;
+    [Here(&[Kind::Colon]), Could(&[Kind::RightBracket])] => RANGE;
+    [Here(&[Kind::Equal, Kind::Assign]), Is(Fact::InParens), Last(&[Kind::Ident]), Second(&[Kind::Colon])] =>
+        &[PieceOf::Text("a parameter has no value of its own; each call has an actual for each parameter")];
+};
+
+/// Tokens in declarations and behind them, and actuals without parentheses.
+pub const DECLARATION_ROWS: &[Row] = rows! {
     [Here(&[Kind::LeftBracket]), Could(&[Kind::Colon])] => ARRAY_TYPE;
     [Here(&[Kind::LeftBracket]), Last(&[Kind::Ident]), Second(&[Kind::Colon, Kind::Of])] => ARRAY_TYPE;
     [Here(&[Kind::LeftBracket, Kind::Of]), Last(&[Kind::Array])] => ARRAY_TYPE;
@@ -141,6 +282,8 @@ pub const DECLARATION_ROWS: &[Row] = rows! {
     [Here(&[Kind::Ident]), Could(&[Kind::Colon]), Is(Fact::TypeBefore)] =>
         &[PieceOf::Text("a name stands before its type: x: INTEGER")];
     [Here(&[Kind::Ident]), Could(&[Kind::Colon]), Is(Fact::TypeThere)] => NO_TYPE;
+    [Here(&[Kind::Ident]), Could(&[Kind::Var]), Next(&[Kind::Colon, Kind::Comma])] =>
+        &[PieceOf::Text("variables are declared behind VAR: VAR x, y: INTEGER")];
     [Here(&[Kind::Ident]), Could(&[Kind::Var]), Is(Fact::TypeThere)] =>
         &[PieceOf::Text("a variable is declared behind VAR, its name before its type: VAR x: INTEGER")];
     [
@@ -171,5 +314,17 @@ pub const RULE_ROWS: &[Row] = rows! {
             Kind::Until, Kind::Array, Kind::Div, Kind::Mod, Kind::Or
         ])
     ] => NO_FUNCTION;
-    [On(Number::C4), Here(&[Kind::And, Kind::Not, Kind::Or]), Is(Fact::Compared)] => COMPARISON;
+    [On(Number::C3), Is(Fact::Procedure), Next(&[Kind::Assign])] => NO_FUNCTION;
+    [On(Number::C3), Here(&[Kind::LeftBracket]), Is(Fact::RecordBefore)] => &[PieceOf::Text("a field is written r.f")];
+    [On(Number::C3), Here(&[Kind::Dot]), Is(Fact::ArrayBefore), Word(&["LENGTH", "LEN", "SIZE", "COUNT"])] => &[PieceOf::Text(
+        "the length of an array is the number in its type; declare it as CONST n = 4, and the type as ARRAY n OF INTEGER",
+    )];
+    [On(Number::C3), Here(&[Kind::Dot]), Is(Fact::ArrayBefore)] =>
+        &[PieceOf::Text("a field of an element is written a[i].f")];
+    [On(Number::C4), Here(&[Kind::Not]), Is(Fact::Compared)] =>
+        &[PieceOf::Text("~ takes the one operand behind it; that a comparison does not hold is written ~(a = b), or a # b")];
+    [On(Number::C4), Here(&[Kind::And, Kind::Or]), Is(Fact::Compared)] => COMPARISON;
+    [On(Number::C4), Here(&[Kind::And]), Is(Fact::WrongBefore)] => NO_BITS;
+    [On(Number::C4), Last(&[Kind::If, Kind::Elsif, Kind::While, Kind::Until]), Is(Fact::OtherSingle)] =>
+        &[PieceOf::Text("a number is no condition; write a comparison, as x # 0")];
 };

@@ -1,7 +1,8 @@
 //! Hints on bytes that begin no token, and on words of other languages.
 
-use crate::table::WhenOf::{Is, Sign, Word};
+use crate::table::WhenOf::{Could, Here, Is, Last, Second, Sign, Word};
 use crate::table::{Fact, PieceOf, Row};
+use ob_scan::Kind;
 
 /// A table: in each row conditions, and what is said.
 macro_rules! rows {
@@ -17,6 +18,28 @@ pub const NO_REAL: &str =
 /// On bits that are moved.
 pub const NO_SHIFT: &str =
     "there are no shifts; a number is doubled by x * 2, and halved by x DIV 2";
+
+/// On loops that count.
+pub const NO_FOR: &str = "there is no FOR; count in a WHILE or a REPEAT";
+
+/// On pointers.
+pub const NO_POINTER: &str =
+    "there are no pointers; write an array of records, and an index in place of a pointer";
+
+/// On procedures of other languages.
+const PROCEDURE_FORM: &str = "a procedure is written PROCEDURE P(k: INTEGER); BEGIN .. END P;";
+
+const RECORD_FORM: &str =
+    "a record type is declared behind TYPE: TYPE R = RECORD x, y: INTEGER END;";
+
+const DECLARATIONS: &str =
+    "a variable is declared behind VAR, as x: INTEGER; a constant behind CONST, as n = 4";
+
+const NO_EXCEPTION: &str =
+    "there are no exceptions; a procedure tells by a BOOLEAN among its VAR parameters what went wrong";
+
+const OTHER_NUMBERS: &str =
+    "the type of numbers is INTEGER, from -2147483648 to 2147483647, and there is no other";
 
 const COMMENT: &str = "a comment is written (* .. *)";
 
@@ -38,10 +61,12 @@ pub const BYTE_ROWS: &[Row] = rows! {
     [Sign("//")] => COMMENT;
     [Sign("/*")] => COMMENT;
     [Sign("/")] => "a quotient is written with DIV";
-    [Sign("|")] => "or is written OR, and there is no CASE";
+    [Sign("||")] => "or is written OR";
+    [Sign("|")] => "of two BOOLEANs or is written OR; there are no operations on the bits of a number, and there is no CASE";
     [Sign("%")] => "a remainder is written with MOD";
     [Sign("?")] => "there is no ? :; write IF, and an assignment behind THEN and behind ELSE";
-    [Sign("^")] => "there are no powers and no pointers; write a product, as x * x";
+    [Sign("^"), Is(Fact::TypeAwaited)] => NO_POINTER;
+    [Sign("^")] => "there are no powers, no pointers and no forward declarations; a product is written x * x";
     [Sign("\u{feff}")] => "a byte order mark stands there, which no editor shows; save the file without it";
     [Is(Fact::NotAscii)] => "outside comments all is ASCII: no letters with accents, no typographic quotes or dashes, no special blanks";
     [Sign("2147483648"), Is(Fact::BehindMinus)] => "the smallest INTEGER is written -2147483647 - 1";
@@ -49,7 +74,7 @@ pub const BYTE_ROWS: &[Row] = rows! {
 
 /// Words that other languages have.
 pub const WORD_ROWS: &[Row] = rows! {
-    [Word(&["FOR"])] => "there is no FOR; count in a WHILE or a REPEAT";
+    [Word(&["FOR"])] => NO_FOR;
     [Word(&["CASE"])] => "there is no CASE; write IF with ELSIF";
     [Word(&["RETURN"])] => "there is no RETURN; a procedure gives values by its VAR parameters";
     [Word(&["IMPORT"])] => "there is no IMPORT; a module stands alone";
@@ -71,15 +96,41 @@ pub const WORD_ROWS: &[Row] = rows! {
     [Is(Fact::SmallKeyword)] => "keywords are written in capitals";
 };
 
+/// Words that other languages have, where it is the tokens around them that tell.
+pub const PLACED_WORD_ROWS: &[Row] = rows! {
+    [Word(&["OD", "WEND", "ENDWHILE"]), Could(&[Kind::End])] => "a WHILE ends with END";
+    [Word(&["FI"]), Could(&[Kind::End])] => "an IF ends with END";
+    [Word(&["USE", "USING", "FROM", "INCLUDE", "REQUIRE", "PACKAGE"]), Could(&[Kind::Const])] => "there is no IMPORT; a module stands alone";
+    [Word(&["OUT", "INOUT", "REF"]), Last(&[Kind::Ident]), Is(Fact::InParens), Could(&[Kind::Colon])] =>
+        "a parameter that gives a value stands behind VAR: VAR x: INTEGER";
+    [Word(&["CONST", "IN", "VAL"]), Last(&[Kind::Ident]), Is(Fact::InParens), Could(&[Kind::Colon])] =>
+        "a parameter without VAR has its name and its type alone, as x: INTEGER; what is handed over is copied";
+    [Word(&["DEF", "FUNC", "FN", "VOID", "PROC", "SUB"]), Could(&[Kind::Procedure])] => PROCEDURE_FORM;
+    [Word(&["DEF", "FUNC", "FN", "VOID", "PROC", "SUB"]), Last(&[Kind::Ident]), Second(&[Kind::Semicolon]), Could(&[Kind::Colon])] =>
+        PROCEDURE_FORM;
+    [Word(&["EXPORT", "PUBLIC"]), Could(&[Kind::Procedure])] => "a procedure that is exported has a * behind its name: PROCEDURE Get*";
+    [Word(&["LET", "DIM", "VAL"]), Could(&[Kind::Procedure])] => DECLARATIONS;
+    [Word(&["LET", "DIM", "VAL"]), Last(&[Kind::Ident]), Second(&[Kind::Semicolon]), Could(&[Kind::Colon])] => DECLARATIONS;
+    [Word(&["LET", "DIM", "VAL"]), Last(&[Kind::Ident]), Could(&[Kind::Assign])] => DECLARATIONS;
+    [Word(&["STRUCT", "CLASS", "OBJECT", "UNION"]), Could(&[Kind::Procedure])] => RECORD_FORM;
+    [Word(&["STRUCT", "CLASS", "OBJECT", "UNION"]), Last(&[Kind::Ident]), Second(&[Kind::Equal, Kind::Colon, Kind::Of])] => RECORD_FORM;
+    [Word(&["SET"]), Here(&[Kind::Of])] => NO_SET;
+    [Word(&["CALL"]), Last(&[Kind::Ident]), Could(&[Kind::Assign])] => "a procedure is called by its name alone, as P(a, 1)";
+    [Word(&["TRY", "THROW", "RAISE", "CATCH"]), Last(&[Kind::Ident]), Could(&[Kind::Assign])] => NO_EXCEPTION;
+    [Word(&["FORWARD", "EXTERNAL"]), Could(&[Kind::Procedure])] =>
+        "there is no FORWARD; a procedure is declared before those that call it, and may call itself";
+};
+
 /// Names that other languages have.
 pub const NAME_ROWS: &[Row] = rows! {
-    [Is(Fact::FurtherDown)] => "a procedure of this name is declared further down; a name is known behind its declaration only";
+    [Is(Fact::FurtherDown)] => "this name is declared further down; it is known only behind its declaration";
     [Is(Fact::Field)] => "a field has this name, and a field is written behind its record, as r.f";
+    [Is(Fact::Elsewhere)] => "a procedure before has a variable of this name, which is known only in that procedure";
     [Word(&["INC"])] => "there is no INC; write x := x + 1";
     [Word(&["DEC"])] => "there is no DEC; write x := x - 1";
     [Word(&["BOOL"])] => "the type of TRUE and FALSE is BOOLEAN";
     [Word(&["INT", "BYTE"])] => "the type of numbers is INTEGER";
-    [Word(&["REAL"])] => NO_REAL;
+    [Word(&["REAL", "LONGREAL", "FLOAT", "DOUBLE", "F32", "F64"])] => NO_REAL;
     [Word(&["CHAR"])] => NO_CHARACTER;
     [Word(&["STRING"])] => "there are no strings; the types of single values are INTEGER and BOOLEAN";
     [Word(&["NEW"])] => "there is no NEW and there are no pointers; write an array of records, and an index in place of a pointer";
@@ -88,5 +139,13 @@ pub const NAME_ROWS: &[Row] = rows! {
     [Word(&["COPY"])] => "there is no COPY; assign element by element";
     [Word(&["ASSERT"])] => "there is no ASSERT; have an export give a BOOLEAN by its VAR parameter, and ask `outcomes --always` for it";
     [Word(&["HALT"])] => "there is no HALT; a procedure ends at its END";
-    [Is(Fact::NumberType)] => "the type of numbers is INTEGER, from -2147483648 to 2147483647, and there is no other";
+    [Word(&["PRINT", "PRINTLN", "PRINTF", "WRITE", "WRITELN", "WRITEINT", "ECHO", "PUTS"])] =>
+        "a module prints nothing; a procedure gives values by its VAR parameters, and `seq` prints them";
+    [Word(&["READ", "READLN", "READINT", "INPUT", "SCANF"])] =>
+        "a module reads nothing; a value comes by a parameter of an export";
+    [Word(&["SELF", "THIS"])] => "there are no methods; a variable of the module is written by its name alone";
+    [Word(&["PASS", "SKIP"])] => "where nothing is to be done stands no statement, as in IF b THEN END";
+    [Word(&["THROW", "RAISE", "PANIC"])] => NO_EXCEPTION;
+    [Is(Fact::NumberType)] => OTHER_NUMBERS;
+    [Word(&["LONG", "SHORT", "UNSIGNED", "I8", "I16", "I32", "I64", "U8", "U16", "U32", "U64"]), Last(&[Kind::Colon, Kind::Of])] => OTHER_NUMBERS;
 };

@@ -3,8 +3,9 @@ use Rattle.ob_diagnosis.proofs.rules.unknown_remark.Goals as goal
 
 pub told-requires : goal.told-requires
 told-requires c = record {
-  further_down = c.declares.result;
+  further_down = c.is_further_down.result;
   field = c.is_field.result;
+  elsewhere = c.is_elsewhere.result;
   number_type = c.is_number_type.result;
   small_keyword = c.is_small_keyword.result;
   name = rw (c.bytes_of.ensures, c.in_ok-near.ensures) refl;

@@ -6,6 +6,7 @@ told-requires c = record {
   shown = c.in_ok-found.found.shown;
   are_shown = c.in_ok-found.ensures;
   expected = c.requires;
+  name = rw (c.word_of-before.ensures, c.last-last.ensures) refl;
   keyword = rw (c.kind_or_name.ensures, c.opening_of-opening.ensures) refl;
   line = rw (c.line_of.ensures, c.opening_of-opening.ensures) refl;
   other_line = rw (c.line_of-2.ensures, c.inner_of.ensures) refl;

@@ -1,0 +1,155 @@
+//! What stands further on behind a place: whether a parenthesis is closed there, whether a BEGIN begins a block, what is declared.
+
+use ob_evidence::site::{Site, is_kind, is_token};
+use ob_explain_names::actuals::{is_left, is_right};
+use ob_scan::{Kind, Token};
+
+/// Whether a token stands there behind the END of the module, its name and the `.`.
+pub(crate) fn has_ended(site: &Site<'_, '_>) -> bool {
+    match site.before {
+        [dot, name, end, ..] => {
+            is_token(site.here())
+                && dot.kind == Kind::Dot
+                && name.kind == Kind::Ident
+                && end.kind == Kind::End
+        }
+        _ => false,
+    }
+}
+
+/// Whether a `)` that no `(` behind the place opens stands before the next keyword or `:=`.
+pub(crate) fn is_closed_behind(site: &Site<'_, '_>) -> bool {
+    let mut open: usize = 0;
+    for token in site.behind {
+        if is_right(token.kind) && open == 0 {
+            return true;
+        }
+        if is_no_actual(token.kind) {
+            return false;
+        }
+        open = open_behind(open, token.kind);
+    }
+    false
+}
+
+/// How many `(` are open behind a token, where so many are before it.
+fn open_behind(open: usize, kind: Kind) -> usize {
+    if is_left(kind) {
+        open.saturating_add(1)
+    } else if is_right(kind) {
+        open.saturating_sub(1)
+    } else {
+        open
+    }
+}
+
+/// Whether a token stands in no list of actuals.
+fn is_no_actual(kind: Kind) -> bool {
+    matches!(
+        kind,
+        Kind::Assign
+            | Kind::If
+            | Kind::While
+            | Kind::Repeat
+            | Kind::Until
+            | Kind::Then
+            | Kind::Do
+            | Kind::Else
+            | Kind::Elsif
+            | Kind::Begin
+            | Kind::End
+            | Kind::Procedure
+            | Kind::Module
+    )
+}
+
+/// Whether a BEGIN stands there, and no name behind the END that closes it.
+pub(crate) fn begins_block(site: &Site<'_, '_>) -> bool {
+    let mut open: usize = 0;
+    let mut is_end = false;
+    for token in site.behind {
+        if is_end {
+            return is_kind(site.here(), Kind::Begin) && token.kind != Kind::Ident;
+        }
+        is_end = open == 0 && token.kind == Kind::End;
+        open = blocks_behind(open, token.kind);
+    }
+    is_kind(site.here(), Kind::Begin) && is_end
+}
+
+/// How many constructs of statements are open behind a token, where so many are before it.
+fn blocks_behind(open: usize, kind: Kind) -> usize {
+    match kind {
+        Kind::If | Kind::While | Kind::Repeat | Kind::Begin => open.saturating_add(1),
+        Kind::End | Kind::Until => open.saturating_sub(1),
+        _ => open,
+    }
+}
+
+/// Whether a constant or a type of this name is declared among these tokens.
+pub(crate) fn declares_other(site: &Site<'_, '_>, tokens: &[Token], word: &[u8]) -> bool {
+    let mut begins = false;
+    let mut is_named = false;
+    for token in tokens {
+        if is_named && token.kind == Kind::Equal {
+            return true;
+        }
+        is_named = begins && !word.is_empty() && site.word_of(Some(*token)) == word;
+        begins = matches!(token.kind, Kind::Semicolon | Kind::Const | Kind::Type);
+    }
+    false
+}
+
+/// Whether a type of this name is declared in the text.
+pub(crate) fn declares_type(site: &Site<'_, '_>, word: &[u8]) -> bool {
+    let mut in_types = false;
+    let mut is_named = false;
+    for token in site.tokens {
+        if is_named && token.kind == Kind::Equal {
+            return true;
+        }
+        in_types = is_in_types(in_types, token.kind);
+        is_named = in_types && !word.is_empty() && site.word_of(Some(*token)) == word;
+    }
+    false
+}
+
+/// Whether declarations of types stand behind a token.
+fn is_in_types(in_types: bool, kind: Kind) -> bool {
+    match kind {
+        Kind::Type => true,
+        Kind::Var | Kind::Procedure | Kind::Begin | Kind::Const => false,
+        _ => in_types,
+    }
+}
+
+/// Whether a variable or a parameter of this name is declared before the place, where none of it is visible: so in a procedure that
+/// has ended.
+pub(crate) fn is_elsewhere(site: &Site<'_, '_>, word: &[u8]) -> bool {
+    let mut is_listed = false;
+    let mut last = Kind::Module;
+    for token in site.tokens {
+        if site.place <= token.start {
+            return false;
+        }
+        let begins = matches!(
+            last,
+            Kind::Var | Kind::Semicolon | Kind::Comma | Kind::LeftParen
+        );
+        if is_listed && begins && !word.is_empty() && site.word_of(Some(*token)) == word {
+            return true;
+        }
+        is_listed = is_in_list(is_listed, token.kind);
+        last = token.kind;
+    }
+    false
+}
+
+/// Whether names of variables or of parameters may stand behind a token.
+fn is_in_list(is_listed: bool, kind: Kind) -> bool {
+    match kind {
+        Kind::Var | Kind::Procedure => true,
+        Kind::Begin | Kind::Const | Kind::Type | Kind::End => false,
+        _ => is_listed,
+    }
+}
