@@ -1,5 +1,6 @@
 -- Which slips are known.
-use Rattle.std.specs.Prelude.{ℕ, ◌-◌, ◌==◌, ◌&&◌, ◌||◌, bytes_eq, nat_eq, nat_lt, not, Bool, true, false, List, Option, Some, None, codes, drop, length, option_map, take, if◌then◌else◌}
+use Rattle.std.specs.Prelude.{ℕ, ◌-◌, ◌==◌, ◌&&◌, ◌||◌, bytes_eq, nat_eq, nat_lt, not, Bool, true}
+use Rattle.std.specs.Prelude.{false, List, Option, Some, None, codes, drop, length, option_map, take, if◌then◌else◌}
 use Rattle.std.specs.Char.{is_ascii_uppercase}
 use Rattle.std.specs.List.{ends_with, list_all, list_any, starts_with}
 use Rattle.ob_check.specs.declared.texts.TextFault.{TextFault}

@@ -3,7 +3,8 @@
 ghost use Rattle.std.specs.Prelude.{◌≡◌};
 ghost use Rattle.std.specs.Char.{is_ascii_uppercase};
 ghost use Rattle.std.specs.List.{list_all};
-ghost use Rattle.ob_slips.specs.Slips.{begins_part, behind_line_feed, is_further, is_in_capitals, is_misspelt, is_off, is_small_keyword, mending_at, mending_of, meant_for_byte, meant_for_pair, meant_for_token};
+ghost use Rattle.ob_slips.specs.Slips.{begins_part, behind_line_feed, is_further, is_in_capitals, is_misspelt, is_off, is_small_keyword};
+ghost use Rattle.ob_slips.specs.Slips.{mending_at, mending_of, meant_for_byte, meant_for_pair, meant_for_token};
 
 use crate::mending::{Meant, Mending, origin};
 use ob_check::TextFault;
