@@ -70,5 +70,5 @@ abbrev pub cause_sentence : Runner → Cause → List ℕ
 cause_sentence runner (Operating operator left right) = operation_sentence operator left right
 cause_sentence runner (Negating operand) = negation_sentence operand
 cause_sentence runner (Indexing length index) = index_sentence length index
-cause_sentence runner Activating = codes "at most 64 calls are active at a time, and this would be the 65th"
+cause_sentence runner Activating = codes "at most 64 procedures are active within one another, and this would be the 65th"
 cause_sentence runner Turning = turns_sentence runner

@@ -54,7 +54,9 @@ pub(crate) fn push_cause(
         Cause::Negating(operand) => push_negation(sentence, operand),
         Cause::Indexing { length, index } => push_index(sentence, length, index),
         Cause::Activating => {
-            sentence.push_str("at most 64 calls are active at a time, and this would be the 65th")
+            sentence.push_str(
+                "at most 64 procedures are active within one another, and this would be the 65th",
+            )
         }
         Cause::Turning => push_turns(sentence, runner),
     }

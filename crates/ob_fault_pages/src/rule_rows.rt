@@ -50,7 +50,7 @@ visible here`.
   MODULE M; VAR x: BOOL; END M.
     C1 at 17
     hint: the type of TRUE and FALSE is BOOLEAN
-  .. and 5 more, in docs/FAULTS.md
+  .. and 7 more, in docs/FAULTS.md
 
 All commands tell C1 to C10, the first in the text.
 
@@ -101,7 +101,9 @@ tokens beside it show that: behind a `:` or OF a type, at the beginning of a
 statement a variable or a procedure, behind an operator, a `(` or a keyword of
 an expression a constant or a variable.
 
-Where they don't show it, it says only that the name can't stand there.
+Where they don't show it, it says only that the name can't stand there. At a
+`.` or a `[` it tells of a whole array or a whole record before it, by the
+declaration of the variable and its selectors up to there.
 
   MODULE M; BEGIN INTEGER := 1 END M.
     C3 at 16
@@ -115,6 +117,8 @@ Where they don't show it, it says only that the name can't stand there.
   MODULE M; PROCEDURE P; END P; BEGIN P := 1 END M.
     C3 at 36
     this is a procedure, and a variable is needed here
+    hint: there are no functions; a procedure gives its results by VAR
+      parameters, and a call of it is a statement
   MODULE M; VAR x: INTEGER; BEGIN x END M.
     C3 at 32
     this is a variable, and a procedure is needed here
@@ -129,7 +133,7 @@ Where they don't show it, it says only that the name can't stand there.
   MODULE M; VAR x: INTEGER; PROCEDURE P; TYPE T = x; END P; END M.
     C3 at 48
     this is a variable, which can't stand here
-  .. and 4 more, in docs/FAULTS.md
+  .. and 6 more, in docs/FAULTS.md
 
 All commands tell C1 to C10, the first in the text.
 
@@ -154,8 +158,14 @@ It knows the type of a number, of TRUE and FALSE, of what begins with a sign or
 TRUE or FALSE; and of two single values, where the one is known, the other is
 of the other type. The name of a type stands for what it is declared as.
 
-Of an operand in parentheses it tells nothing, and says less, as `this is of
-another type than the one that is needed here`.
+Behind an operator, a sign or `~` it knows the type of what stands in
+parentheses too: with a comparison, `&`, OR or `~` in them it is a BOOLEAN,
+since no INTEGER has one in it, and else it is of the type of its first
+operand. A whole array or record with an operator behind it is told as such,
+and alone by the type that is needed.
+
+Where it knows too little, it says less, as `this is of another type than the
+one that is needed here`.
 
   MODULE M; VAR x: INTEGER; BEGIN x := TRUE END M.
     C4 at 37
@@ -179,13 +189,15 @@ another type than the one that is needed here`.
   MODULE M; VAR x: INTEGER; BEGIN x := -TRUE END M.
     C4 at 37
     a sign takes an INTEGER, and what stands behind it is a BOOLEAN
-  MODULE M; VAR x: INTEGER; BEGIN IF x THEN END END M.
+  MODULE M; VAR x: INTEGER; b: BOOLEAN; BEGIN b := ~(x) END M.
+    C4 at 49
+    ~ takes a BOOLEAN, and what stands behind it is an INTEGER
+  MODULE M; VAR x: INTEGER; BEGIN IF ~x = 1 THEN END END M.
     C4 at 35
-    the expression that begins here is an INTEGER, and a condition is a BOOLEAN
-  MODULE M; VAR x: INTEGER; BEGIN REPEAT x := 1 UNTIL x END M.
-    C4 at 52
-    the expression that begins here is an INTEGER, and a condition is a BOOLEAN
-  .. and 14 more, in docs/FAULTS.md
+    ~ takes a BOOLEAN, and what stands behind it is an INTEGER
+    hint: ~ takes the one operand behind it; that a comparison does not hold is
+      written ~(a = b), or a # b
+  .. and 17 more, in docs/FAULTS.md
 
 All commands tell C1 to C10, the first in the text.
 
@@ -259,7 +271,8 @@ Shown in its text by `obl0 explain a.mod`.
 C7: the actuals of a call. There are as many as parameters, and for a VAR
 parameter a variable stands, with selectors or without, and nothing else.
 
-`explain` tells how many there are of both.
+`explain` tells how many there are of both; and of an actual that is no
+variable, whether a variable begins it or it is a constant, by the name there.
 
   MODULE M; PROCEDURE P(x: INTEGER); END P; BEGIN P END M.
     C7 at 48
@@ -267,6 +280,13 @@ parameter a variable stands, with selectors or without, and nothing else.
   MODULE M; PROCEDURE P(x: INTEGER); END P; BEGIN P(1, 2) END M.
     C7 at 48
     this call has 2 actuals, and the procedure has 1 parameter
+  MODULE M; VAR b: INTEGER; PROCEDURE P(VAR x: INTEGER); END P; BEGIN P(b + 1) END M.
+    C7 at 70
+    a parameter with VAR takes a variable alone, and this one begins an
+      expression
+  MODULE M; CONST c = 1; PROCEDURE P(VAR x: INTEGER); END P; BEGIN P(c) END M.
+    C7 at 67
+    a parameter with VAR takes a variable, and this is a constant
   MODULE M; PROCEDURE P(VAR x: INTEGER); END P; BEGIN P(1) END M.
     C7 at 54
     a parameter with VAR takes a variable, and nothing else

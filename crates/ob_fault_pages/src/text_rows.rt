@@ -125,13 +125,23 @@ text's length, where it ends too early. What is wrong is that token, or what
 stands just before it; the end is shown behind the last byte that is no blank.
 
 `explain` tells what could stand there: exactly the kinds of token with which
-the text before it goes on to some module. Where nothing could stand there, as
-behind the end of the module, it says `the module can't go on like this; look
-here, and at what stands just before it`.
+the text before it goes on to some module. Behind the END of the module, its
+name and the `.` only comments stand, and it says so. Where else nothing could
+stand, it says `the module can't go on like this; look here, and at what stands
+just before it`.
+
+A word of another language, as FOR, is a name, and so is a misspelt keyword.
+Where a name may stand, as at the beginning of a statement, what is told is the
+word behind it. So `explain` names the word before too, where it is a word of
+another language or a misspelt keyword, and where two names stand side by side
+and no operator could stand between them: `` expected .. behind the name `FOR`
+``.
 
 Where it knows none of the slips below, it asks whether a `;` is missing, or
 THEN, DO, a `]` or a `)` where one of these could stand: exactly where the
-token could stand there behind it, by the grammar.
+token could stand there behind it, by the grammar. Of a `,` it asks so too,
+between names that are declared and between the actuals of a call that is
+closed behind them.
 
 It asks first whether a keyword is meant. It looks at the token there, and else
 at the one just before it: where that is a name which the text has nowhere
@@ -183,7 +193,7 @@ another than that of the module or procedure is P3.
     `module` is a name
   MODULE M; VAR x: INTEGER; BEGN x := 1 END M.
     P1 at 31
-    expected `:` or `,`
+    expected `:` or `,` behind the name `BEGN`
     hint: did you mean `BEGIN`?
     `BEGN` is no keyword, so it is a name, of one more variable, behind which
       `x` can't stand. Where a name may stand, a misspelt keyword is told at
@@ -215,7 +225,7 @@ another than that of the module or procedure is P3.
     expected a statement, `END` or `;`
     hint: the WHILE of line 1 is still open; is its END missing?
     two ENDs are missing, of which that of the WHILE comes first
-  .. and 59 more, in docs/FAULTS.md
+  .. and 64 more, in docs/FAULTS.md
 
 Shown in its text by `obl0 explain a.mod`.
 ",

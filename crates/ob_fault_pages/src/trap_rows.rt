@@ -18,8 +18,8 @@ larger numbers can come, test the operands before the operation.
 
 A trap is no fault. `E 0.2 trap 1` is a reply to a call, on standard output
 with status 0, and the call has changed nothing. `explain MODULE SCRIPT
---traps` tells of each call of a script that traps which operation it was, and
-with which values (docs/FORMATS.md).
+--traps` tells of each place where calls of a script trap which operation it
+is, with which values, and how many calls trap there (docs/FORMATS.md).
 ",
     },
     Page {
@@ -38,8 +38,8 @@ are 0 to 3.
 
 A trap is no fault. `E 0.2 trap 1` is a reply to a call, on standard output
 with status 0, and the call has changed nothing. `explain MODULE SCRIPT
---traps` tells of each call of a script that traps which operation it was, and
-with which values (docs/FORMATS.md).
+--traps` tells of each place where calls of a script trap which operation it
+is, with which values, and how many calls trap there (docs/FORMATS.md).
 ",
     },
     Page {
@@ -57,8 +57,8 @@ trap 3: a divisor is 0 or less. DIV and MOD take a divisor of at least 1.
 
 A trap is no fault. `E 0.2 trap 1` is a reply to a call, on standard output
 with status 0, and the call has changed nothing. `explain MODULE SCRIPT
---traps` tells of each call of a script that traps which operation it was, and
-with which values (docs/FORMATS.md).
+--traps` tells of each place where calls of a script trap which operation it
+is, with which values, and how many calls trap there (docs/FORMATS.md).
 ",
     },
     Page {
@@ -71,8 +71,8 @@ or write the recursion as a loop.
 
 A trap is no fault. `E 0.2 trap 1` is a reply to a call, on standard output
 with status 0, and the call has changed nothing. `explain MODULE SCRIPT
---traps` tells of each call of a script that traps which operation it was, and
-with which values (docs/FORMATS.md).
+--traps` tells of each place where calls of a script trap which operation it
+is, with which values, and how many calls trap there (docs/FORMATS.md).
 ",
     },
     Page {
@@ -111,8 +111,8 @@ the work over several calls: what one call leaves the next one finds.
 
 A trap is no fault. `E 0.2 trap 1` is a reply to a call, on standard output
 with status 0, and the call has changed nothing. `explain MODULE SCRIPT
---traps` tells of each call of a script that traps which operation it was, and
-with which values (docs/FORMATS.md).
+--traps` tells of each place where calls of a script trap which operation it
+is, with which values, and how many calls trap there (docs/FORMATS.md).
 ",
     },
     Page {
