@@ -51,7 +51,7 @@ bytes holds.
   MODULE M; PROCEDURE P; BEGIN P END P; BEGIN P END M.
     O2 trap 4
     the module's body traps here, so the object has no first state: at most 64
-      calls are active at a time, and this would be the 65th
+      procedures are active within one another, and this would be the 65th
   MODULE M; BEGIN WHILE TRUE DO END END M.
     O2 trap 5
     the module's body traps here, so the object has no first state: no turn is
