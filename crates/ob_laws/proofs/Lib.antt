@@ -8,6 +8,7 @@ pub mod FieldNames
 pub mod Found
 pub mod Fronts
 mod Meant
+mod Moments
 pub mod Names
 pub mod Numbers
 pub mod OneEnd
