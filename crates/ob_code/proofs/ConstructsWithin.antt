@@ -17,7 +17,8 @@ use Rattle.ob_checked.specs.declared.program.Statement.{Statement}
 use Rattle.ob_checked.specs.View.{expression_of, designator_of, actual_of, statement_of, statements_in, procedure_of}
 use Rattle.ob_code.specs.Entering.{with_entry, with_procedure}
 use Rattle.ob_code.specs.Growing.{grown, is_more, over, over_many}
-use Rattle.ob_code.specs.Limits.{HasSmallOperands, IsWithinLimits}
+use Rattle.ob_code_scheme.specs.Operands.{HasSmallOperands}
+use Rattle.ob_code.specs.Limits.{IsWithinLimits}
 use Rattle.ob_code.proofs.Grown.{behind}
 use Rattle.ob_code.proofs.Values.{with_value, with_designator}
 use Rattle.ob_code.proofs.Constructs.{with_actual, with_actuals, with_assignment, with_statement, with_statements, with_branches, with_alternative, actuals_go, assignment_put, call_put, statements_go, repeat_put, branches_within}

@@ -20,7 +20,8 @@ use Rattle.ob_checked.specs.declared.program.Selector.{Selector}
 use Rattle.ob_checked.specs.declared.program.Selector.TheVariants.{Field, Element}
 use Rattle.ob_checked.specs.View.{owner_of, expression_of, operations_in, selectors_in, designator_of}
 use Rattle.ob_code.specs.Growing.{grown, selected}
-use Rattle.ob_code.specs.Limits.{HasSmallOperands, IsWithinLimits}
+use Rattle.ob_code_scheme.specs.Operands.{HasSmallOperands}
+use Rattle.ob_code.specs.Limits.{IsWithinLimits}
 use Rattle.ob_code.proofs.Grown.{behind}
 use Rattle.ob_code.proofs.Values.{with_value, with_designator, with_operations, with_operation, with_selectors, value_put, computed_put, compared_put, operations_go, selectors_go, selectors_begin}
 use Rattle.ob_code.proofs.Within.{within, before, room, small_operands, other}

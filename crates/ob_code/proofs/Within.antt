@@ -7,7 +7,8 @@ use Rattle.std.proofs.lemmas.List.Elements.{All-append, All-cons, All-tail}
 use Rattle.ob_code_machine.specs.Code.{CodeParts}
 use Rattle.ob_code_machine.specs.declared.instr.Instr.{Instr}
 use Rattle.ob_code.specs.Growing.{grown}
-use Rattle.ob_code.specs.Limits.{HasSmallOperands, IsWithinLimits}
+use Rattle.ob_code_scheme.specs.Operands.{HasSmallOperands}
+use Rattle.ob_code.specs.Limits.{IsWithinLimits}
 
 All-front : {X : Type 0} (P : X → Type 0) (xs ys : List X) → All P (xs ++ ys) → All P xs
 All-front P xs ys h = λ k d l. let long = length-append xs ys in subst P (get_or-append xs ys d k l) (h k d (omega (arith, l, long)))

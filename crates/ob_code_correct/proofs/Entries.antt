@@ -1,5 +1,5 @@
 -- Where the code of each procedure stands.
-use Rattle.std.proofs.Common.{◌≡◌, ℕ, zero, suc, ◌+◌, ◌≤◌, List, [], ◌∷◌, length, Some, refl, ap, ◌∙◌, subst, append-nil, arith}
+use Rattle.std.proofs.Common.{◌≡◌, ℕ, zero, suc, ◌+◌, ◌≤◌, List, [], ◌∷◌, length, Some, None, refl, ap, ◌∙◌, subst, append-nil, arith}
 use Rattle.std.specs.Prelude.{slice_get}
 use Rattle.ob_typing.specs.Program.{Procedure, Program}
 use Rattle.ob_code_scheme.specs.Types.{Scope, variables_scope}
@@ -15,6 +15,12 @@ entry_from place (q ∷ ps) zero p h = let e : place ≡ place + 0 = omega arith
 entry_from place (q ∷ ps) (suc i) p h =
     let e : place + procedure_size q + entry_of ps i ≡ place + (procedure_size q + entry_of ps i) = omega arith in
     entry_from (place + procedure_size q) ps i p h ∙ ap (λ (n : ℕ). Some n) e
+
+-- a procedure has an entry where there is one
+pub no_entry : (place : ℕ) (ps : List Procedure) (i : ℕ) → slice_get ps i ≡ None → slice_get (entries_from place ps) i ≡ None
+no_entry place [] i h = refl
+no_entry place (p ∷ ps) zero h = absurd (cc)
+no_entry place (p ∷ ps) (suc i) h = no_entry (place + procedure_size p) ps i h
 
 module _ (globals : Scope) (entry : ℕ → ℕ) (code : List Instr) where
   -- where procedures stand from a place on, each stands at its own

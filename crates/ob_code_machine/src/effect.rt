@@ -20,7 +20,7 @@ pub enum Answer {
 
 /// Pushes a word.
 #[inline(always)]
-fn push(stack: &mut Stack, word: i64) -> Answer
+pub fn push(stack: &mut Stack, word: i64) -> Answer
     ensures { LeavesStack result stack.old stack.new (Effects.pushed stack.old.reserve stack.old.words word) }
 {
     if stack.room() == 0 {
@@ -44,7 +44,7 @@ pub(crate) fn local_address(variables: usize, fp: usize, word: u16) -> Option<i6
 
 /// Pushes the address of a word of the frame.
 #[inline(always)]
-fn push_local(block: &[i64], stack: &mut Stack, fp: usize, word: u16) -> Answer
+pub fn push_local(block: &[i64], stack: &mut Stack, fp: usize, word: u16) -> Answer
     ensures { LeavesStack result stack.old stack.new (Effects.stack_effect stack.old.reserve fp (Instr.Local word) block.now stack.old.words) }
 {
     match local_address(block.len(), fp, word) {
@@ -123,7 +123,7 @@ pub(crate) fn word_at(block: &[i64], stack: &Stack, height: usize, address: i64)
 
 /// Replaces the address on top by the word there.
 #[inline(always)]
-fn load(block: &[i64], stack: &mut Stack) -> Answer
+pub fn load(block: &[i64], stack: &mut Stack) -> Answer
     ensures { LeavesStack result stack.old stack.new (Effects.loaded block.now stack.old.words) }
 {
     let Some(address) = stack.top() else {
@@ -166,7 +166,7 @@ fn put_at(block: &mut [i64], stack: &mut Stack, height: usize, address: i64, wor
 
 /// Puts the word on top at the address below it.
 #[inline(always)]
-fn store(block: &mut [i64], stack: &mut Stack) -> Answer
+pub fn store(block: &mut [i64], stack: &mut Stack) -> Answer
     ensures { HasEffect result block.old block.new stack.old stack.new (Effects.stored block.old stack.old.words) }
 {
     let Some((address, word)) = stack.two() else {

@@ -1,4 +1,5 @@
 pub mod Fine
+pub mod Operands
 pub mod Placing
 pub mod Rows
 pub mod Samples

@@ -4,6 +4,7 @@ pub mod Image
 pub mod Layout
 pub mod Limits
 pub mod Memory
+pub mod Operands
 pub mod Placing
 pub mod Running
 pub mod Scheme

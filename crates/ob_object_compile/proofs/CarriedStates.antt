@@ -24,7 +24,7 @@ scalar_typed Boolean (Scalars.Int z) h = absurd h
 scalar_typed Boolean (Scalars.Bool b) h = tt
 
 mutual
-  value_typed : (t : DataType) (v : Named.Value) (w : Value) → Given.IsValueOf t v → SameValue t v w → IsValueOf t w
+  pub value_typed : (t : DataType) (v : Named.Value) (w : Value) → Given.IsValueOf t v → SameValue t v w → IsValueOf t w
   value_typed (Simple t) (Named.Single s) (Single r) h same = scalar_typed t r (subst (λ (x : Scalar). Given.IsScalarOf t x) same.0 h)
   value_typed (Simple t) (Named.Single s) (Parts ws) h same = absurd same
   value_typed (Simple t) (Named.Elements vs) w h same = absurd h

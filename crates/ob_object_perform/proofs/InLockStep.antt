@@ -1,5 +1,5 @@
 -- The engine over a program's tree is in lock-step with the engine over the code of the scheme, of whatever length.
-use Rattle.std.proofs.Common.{◌≡◌, ℕ, zero, suc, ◌+◌, Bool, true, false, ℤ, List, [], ◌∷◌, length, Option, Some, None, refl, sym, ap, subst}
+use Rattle.std.proofs.Common.{◌≡◌, ℕ, ◌+◌, Bool, true, false, ℤ, List, [], ◌∷◌, length, Option, Some, None, refl, sym, ap, subst}
 use Rattle.std.specs.Prelude.{pos, slice_get, slice_index_or, nat_le, if◌then◌else◌}
 use Rattle.ob_code_correct.specs.CodeMeaning.{Entrance, arguments_in, entrance_at, first_word, other_words, started, turned}
 use Rattle.ob_code_correct.specs.Compiled.{engine_of, entrances_from, parts_of}
@@ -9,9 +9,9 @@ use Rattle.ob_code_machine.specs.Machine.{BodyState, Outcome, Unfinished, turn}
 use Rattle.ob_code_machine.specs.declared.argument.Argument.{Argument}
 use Rattle.ob_code_machine.specs.declared.instr.Instr.{Instr}
 use Rattle.ob_code_machine.specs.declared.saved.Saved.{Saved}
-use Rattle.ob_code_correct.proofs.Entries.{entry_is}
+use Rattle.ob_code_correct.proofs.Entries.{entry_is, no_entry}
 use Rattle.ob_code_scheme.specs.Layout.{variable_words}
-use Rattle.ob_code_scheme.specs.Scheme.{code_of, entries_from, entry_of, procedure_size}
+use Rattle.ob_code_scheme.specs.Scheme.{code_of, entry_of}
 use Rattle.ob_code_scheme.specs.Temporaries.{stack_words}
 use Rattle.ob_code_scheme.specs.Types.{Scope, variables_scope}
 use Rattle.ob_tree_law.specs.TreeEngine.{TreeRun, going_run, over_run, tree_engine, tree_entered, tree_shown, tree_started, tree_step}
@@ -25,12 +25,6 @@ use Rattle.ob_typing.specs.Program.{Procedure, Program}
 use Rattle.wf_play.specs.LockStep.{AreInLockStep}
 use Rattle.wf_table.specs.Meaning.{Turned}
 use Rattle.wf_table.specs.declared.engine_turn.EngineTurn.TheVariants as Turn
-
--- a procedure has an entry where there is one
-no_entry : (place : ℕ) (ps : List Procedure) (i : ℕ) → slice_get ps i ≡ None → slice_get (entries_from place ps) i ≡ None
-no_entry place [] i h = refl
-no_entry place (p ∷ ps) zero h = absurd (cc)
-no_entry place (p ∷ ps) (suc i) h = no_entry (place + procedure_size p) ps i h
 
 module _ (program : Program) (budget : ℕ) where
   abbrev globals : Scope

@@ -80,7 +80,7 @@ fn push_begin(
 }
 
 /// The name of an export.
-fn export_name(exports: &[Export], number: usize) -> &str
+pub fn export_name(exports: &[Export], number: usize) -> &str
     ensures { result.now ≡ name_of (slice_get (map signature_of exports.now) number) }
 {
     match exports.get(number) {
@@ -90,7 +90,7 @@ fn export_name(exports: &[Export], number: usize) -> &str
 }
 
 /// Appends values, each with a space before it.
-fn push_scalars(text: &mut String, values: &[Scalar]) -> Result<(), AllocError>
+pub fn push_scalars(text: &mut String, values: &[Scalar]) -> Result<(), AllocError>
     ensures ok { OnOk result (string_bytes text.new ≡ string_bytes text.old ++ scalars_text values.now) }
     ensures left { OnErr result (GoesOn (string_bytes text.old) (string_bytes text.new)) }
 {

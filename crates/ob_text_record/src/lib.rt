@@ -17,7 +17,7 @@ pub mod variables;
 mod words;
 pub mod writing;
 
-pub use events::push_id;
+pub use events::{export_name, push_id, push_scalars};
 pub use record::{Record, carried_copy, carried_state};
 pub use state_lines::write_state;
 pub use writing::write_record;

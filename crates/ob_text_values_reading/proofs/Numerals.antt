@@ -51,10 +51,10 @@ few_digits n h =
       spells = digits_value-decimal numerals n small;
     }
 
-below_most : (n : ℕ) → pos n ≤ℤ pos 2147483647 → n ≤ 2147483647
+pub below_most : (n : ℕ) → pos n ≤ℤ pos 2147483647 → n ≤ 2147483647
 below_most n h = omega (arith, ints)
 
-above_least : (n : ℕ) → neg_ℤ (pos 2147483648) ≤ℤ negsuc n → n ≤ 2147483647
+pub above_least : (n : ℕ) → neg_ℤ (pos 2147483648) ≤ℤ negsuc n → n ≤ 2147483647
 above_least n h = omega (arith, ints)
 
 -- what is written of an INTEGER says it

@@ -12,7 +12,7 @@ use Rattle.ob_code_scheme.specs.Types.{words, part_type, part_offset, Space, Hol
 use Rattle.ob_code_scheme.specs.Scheme.{size, entry_of, own_code, variable_code, code_of, HasAt, selectors_at}
 use Rattle.ob_code_scheme.specs.WellFormed.{IsWellFormed}
 use Rattle.ob_tree_law.specs.Work.{Task, Address, Selecting}
-use Rattle.ob_tree_law.specs.Operands.{largest_operand}
+use Rattle.ob_tree_law.specs.Operands.{largest_word}
 use Rattle.ob_tree_law.specs.Places.{Reads}
 use Rattle.ob_tree_law.specs.Reserve.{activation_most, IsLow}
 use Rattle.ob_tree_law.proofs.Opened.{open_element}
@@ -30,7 +30,7 @@ module _ (program : Program) (well : ∥ IsWellFormed program ∥₁) where
   abbrev Stands : List Task → ℕ → List Saved → Type 0
   Stands = Reads code g (entry_of program.procedures)
 
-  found : (place : ℕ) (i : Instr) → slice_get code place ≡ Some i → largest_operand i ≤ 65535
+  found : (place : ℕ) (i : Instr) → slice_get code place ≡ Some i → largest_word i ≤ 65535
   found place i h = ∥∥₁_elim well le_prop (λ w. operands_found program place i w h)
 
   own_found : (pc word : ℕ) (space : Space) (tail : List Instr) → HasAt code pc (own_code word space ++ tail) → word ≤ 65535

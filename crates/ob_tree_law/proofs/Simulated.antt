@@ -1,5 +1,5 @@
 -- After every number of steps the engine over the tree shows what the engine over the code shows.
-use Rattle.std.proofs.Common.{◌≡◌, ℕ, zero, suc, ◌+◌, Bool, true, false, ℤ, List, [], ◌∷◌, length, Option, Some, None, refl, sym, ap, subst}
+use Rattle.std.proofs.Common.{◌≡◌, ℕ, zero, suc, Bool, true, false, ℤ, List, [], ◌∷◌, length, Option, Some, None, refl, sym, ap, subst}
 use Rattle.std.specs.Prelude.{slice_get, nat_le, if◌then◌else◌}
 use Rattle.ob_typing.specs.Program.{Procedure, Program}
 use Rattle.ob_code_scheme.specs.Types.{Scope, variables_scope}
@@ -12,8 +12,8 @@ use Rattle.ob_code_machine.specs.Machine.{BodyState, Configuration, Outcome, Unf
 use Rattle.ob_code_machine.specs.Machine as Machine
 use Rattle.ob_code_machine.specs.declared.argument.Argument.{Argument}
 use Rattle.ob_code_machine.specs.Body.{Run, enter, empty, entered, shown, result_count as results_of}
-use Rattle.ob_code_scheme.specs.Scheme.{procedure_size, entry_of, entries_from, code_of}
-use Rattle.ob_code_correct.proofs.Entries.{entry_is}
+use Rattle.ob_code_scheme.specs.Scheme.{entry_of, code_of}
+use Rattle.ob_code_correct.proofs.Entries.{entry_is, no_entry}
 use Rattle.wf_table.specs.declared.engine_turn.EngineTurn.TheVariants.{Trapped}
 use Rattle.wf_table.specs.Meaning.{Turned, after_turn, steps, body}
 use Rattle.ob_code_correct.specs.CodeMeaning.{Entrance, entrance_at, arguments_in, first_word, other_words, started, turned}
@@ -26,12 +26,6 @@ use Rattle.ob_tree_law.proofs.Alike.{step_alike, start_stands}
 use Rattle.ob_tree_law.proofs.Standing.{is_placed}
 use Rattle.ob_tree_law.specs.TreeLaw.{Shows, BodiesShowTheSame}
 use Rattle.ob_tree_law.specs.TreeEngine.{TreeRun, over_run, going_run, tree_entered, tree_started, tree_shown, tree_engine}
-
--- a procedure has an entry where there is one
-no_entry : (place : ℕ) (ps : List Procedure) (i : ℕ) → slice_get ps i ≡ None → slice_get (entries_from place ps) i ≡ None
-no_entry place [] i h = refl
-no_entry place (p ∷ ps) zero h = absurd (cc)
-no_entry place (p ∷ ps) (suc i) h = no_entry (place + procedure_size p) ps i h
 
 module _ (program : Program) (budget : ℕ) where
   abbrev globals : Scope

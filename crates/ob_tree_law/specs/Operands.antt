@@ -1,16 +1,13 @@
 -- Operands of 16 bits.
-use Rattle.std.specs.Prelude.{ℕ, ◌≤◌, max}
+use Rattle.std.specs.Prelude.{ℕ, ◌≤◌}
 use Rattle.ob_code_machine.specs.declared.instr.Instr.{Instr}
 use Rattle.ob_code_machine.specs.declared.instr.Instr.TheVariants as Instrs
+use Rattle.ob_code_scheme.specs.Operands.{largest_operand}
 
--- the greatest operand of an instruction; 0 where it has none, and of a jump and a call, which know places of the code
-abbrev pub largest_operand : Instr → ℕ
-largest_operand (Instrs.Global word) = word
-largest_operand (Instrs.Local word) = word
-largest_operand (Instrs.Field offset) = offset
-largest_operand (Instrs.Index count element_words) = max count element_words
-largest_operand (Instrs.Frame words) = words
-largest_operand _ = 0
+-- the greatest operand of an instruction; 0 where it has none, and of a jump and a call, which know places of the code: it may be of any length
+abbrev pub largest_word : Instr → ℕ
+largest_word (Instrs.Call entry parameters) = 0
+largest_word i = largest_operand i
 
-abbrev pub HasSmallOperands : Instr → Type 0
-HasSmallOperands i = largest_operand i ≤ 65535
+abbrev pub HasSmallWords : Instr → Type 0
+HasSmallWords i = largest_word i ≤ 65535

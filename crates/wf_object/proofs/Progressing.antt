@@ -28,7 +28,8 @@ use Rattle.wf_object.specs.InARow.{AreQuiet, after_steps, spent_after_steps}
 use Rattle.wf_object.specs.InBody.{body_behind, cell_behind, process_behind}
 use Rattle.wf_records.specs.Times.{counted_times}
 use Rattle.wf_object.specs.Kept.{IsKept}
-use Rattle.wf_object.specs.Progress.{AreUnmarked, IsInObject, Progress, by_row, by_rows, outside_more, progress}
+use Rattle.wf_object.specs.Progress.{AreUnmarked, IsInObject, Progress, by_row, by_rows, progress}
+use Rattle.wf_records.specs.Spending.{outside_more}
 use Rattle.wf_object.specs.Quiet.{is_quiet, is_unmarked}
 use Rattle.wf_records.proofs.Counting.{written_there}
 use Rattle.wf_object.proofs.InARow.{kept_after}

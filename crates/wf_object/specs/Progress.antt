@@ -1,5 +1,5 @@
 -- What a process's own steps change, but for what is noted of them.
-use Rattle.std.specs.Prelude.{◌≡◌, ℕ, zero, suc, ◌+◌, ◌<◌, ℤ, List, Some, true, slice_get}
+use Rattle.std.specs.Prelude.{◌≡◌, ℕ, zero, suc, ◌<◌, ℤ, List, Some, true, slice_get}
 use Rattle.ll_cell.specs.Cell.{Cell}
 use Rattle.ll_cell.specs.declared.form.Form.{Form}
 use Rattle.ob_interface.specs.Call.{ObjectCall}
@@ -10,6 +10,7 @@ use Rattle.wf_table.specs.Table.{Process, cell_after, row}
 use Rattle.wf_table.specs.declared.spent.Spent.{Spent}
 use Rattle.wf_table.specs.Spent.{has_more, spent_after}
 use Rattle.wf_table.specs.Counted.{spent_of}
+use Rattle.wf_records.specs.Spending.{outside_more}
 use Rattle.wf_object.specs.Kept.{IsKept}
 use Rattle.wf_object.specs.Quiet.{is_unmarked}
 
@@ -21,10 +22,6 @@ pub record Progress (Run : Type 0) : Type 0 where
 
 abbrev pub progress : {Run : Type 0} → Cell → Process Run → Spent → Progress Run
 progress c q x = record { cell = c; process = q; spent = x }
-
--- so many steps outside bodies more
-abbrev pub outside_more : Spent → ℕ → Spent
-outside_more x n = record x { outside = x.outside + n }
 
 -- the cell, the process, and what it has spent with so many steps outside bodies that are not yet counted
 abbrev pub progress_on : {Run : Type 0} → Cell → Process Run → Spent → ℕ → Progress Run

@@ -8,7 +8,6 @@ pub mod machine;
 pub mod process;
 mod rows;
 mod seen;
-mod spent;
 mod start;
 mod steps;
 

@@ -19,7 +19,6 @@ use crate::fault::NewFault;
 use crate::process::Process;
 use crate::rows::take_rows;
 use crate::seen::{is_quiet, show_step};
-use crate::spent::{bound_of, count_inside, count_step};
 use crate::start::{idle, opened};
 use crate::steps::{act, flip};
 use ll_cell::Shared;
@@ -29,6 +28,7 @@ use std::alloc::Global;
 use std::marker::Model;
 use wf_history::{CallId, History};
 use wf_records::{Records, Seen, StepOut};
+use wf_records::spent::{bound_of, count_inside, count_step};
 use wf_table::{Label, Sizes, Spent, Turns};
 
 /// An object of n processes over an engine: its cell, its processes, and what was seen.

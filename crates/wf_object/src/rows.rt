@@ -9,12 +9,12 @@ ghost use Rattle.wf_table.specs.Toggles.{StoresBit};
 use crate::bodies::stay;
 use crate::engine::Engine;
 use crate::process::Process;
-use crate::spent::{count_inside, count_outside};
 use crate::steps::{
     behind_fetch, check, enter, fetch, keep, link, load, mine, post, read, save, seen, store,
     take_reply, try_round, undo,
 };
 use ll_cell::Shared;
+use wf_records::spent::{count_inside, count_outside};
 use wf_table::{Label, Sizes, Spent};
 
 /// Steps of the process, at most so many, and how many they are: where it stands at POST, READ or TAKE those at these labels, up to the

@@ -18,7 +18,6 @@ ghost use Rattle.wf_history.specs.History.{IsHistory};
 
 use crate::engine::Engine;
 use crate::process::Process;
-use crate::spent::count_step;
 use crate::steps::{commit, own_toggle};
 use ll_cell::Shared;
 use ob_interface::NoMemory;
@@ -26,6 +25,7 @@ use smallvec::SmallVec;
 use std::alloc::Global;
 use wf_history::{CallId, KeptCall, KeptReply};
 use wf_records::{Records, StepOut};
+use wf_records::spent::count_step;
 use wf_table::{Label, Sizes, Spent};
 
 /// Whether a step at the label shows nothing.

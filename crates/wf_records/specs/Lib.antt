@@ -1,2 +1,3 @@
 pub mod CallsKept
+pub mod Spending
 pub mod Times

@@ -1,10 +1,12 @@
-//! What is kept of the steps of a machine: what was seen, in which order calls were applied, who stepped, and the calls submitted to a process.
+//! What is kept of the steps of a machine: what was seen, in which order calls were applied, who stepped, what a process spends,
+//! and the calls submitted to it.
 //!
 //! One may rely on the clauses of the public functions; wf_object alone makes such records.
 #![tactic(auto)]
 
 pub mod calls;
 pub mod records;
+pub mod spent;
 
 pub use calls::CallList;
 pub use records::{Records, Seen, StepOut};

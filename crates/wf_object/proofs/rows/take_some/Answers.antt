@@ -4,7 +4,8 @@ use Rattle.wf_table.specs.declared.process.Label.TheVariants.{Try, Link, Store, 
 use Rattle.wf_table.specs.Table.{cell_after, check, row}
 use Rattle.wf_table.specs.declared.spent.Spent.{Spent}
 use Rattle.wf_table.specs.Spent.{has_more, spent_after}
-use Rattle.wf_object.specs.Progress.{outside_more, progress}
+use Rattle.wf_object.specs.Progress.{progress}
+use Rattle.wf_records.specs.Spending.{outside_more}
 use Rattle.wf_object.specs.Quiet.{is_unmarked}
 use Rattle.wf_object.proofs.Progressing.{in_body, one_unmarked, outside_next, plain_row, plain_row_unmarked, room_of_bodies, same_progress}
 use Rattle.wf_object.proofs.rows.take_some.Goals as goal

@@ -1,5 +1,6 @@
 use Rattle.std.proofs.Common.{◌≡◌, ◌-◌, ◌≤◌}
-use Rattle.wf_object.specs.Progress.{AreUnmarked, by_rows, outside_more, progress}
+use Rattle.wf_object.specs.Progress.{AreUnmarked, by_rows, progress}
+use Rattle.wf_records.specs.Spending.{outside_more}
 use Rattle.wf_object.proofs.rows.take_words.Given as goal
 
 -- so many rows were taken so far

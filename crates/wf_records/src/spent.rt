@@ -3,7 +3,7 @@
 ghost use Rattle.std.specs.Prelude.{◌≡◌, ◌+◌, ◌*◌, ◌<◌, ◌^◌};
 ghost use Rattle.wf_table.specs.Spent.{spent_after};
 ghost use Rattle.wf_table.specs.Bound.{bound};
-ghost use Rattle.wf_object.specs.Progress.{outside_more};
+ghost use Rattle.wf_records.specs.Spending.{outside_more};
 ghost use Rattle.wf_table.specs.Ranges.{IsSized};
 
 use wf_table::{Label, Sizes, Spent};
