@@ -57,6 +57,14 @@ write_own c p i w = with_own c p (slice_set (block_of c (own_of c p)) i w)
 abbrev pub refilled : List ℤ → List ℤ → List ℤ
 refilled block ws = take (length block) (ws ++ drop (length ws) block)
 
+-- a block with so many words of another in place of its own, from word `first` on
+abbrev pub copied : (first count : ℕ) → (source block : List ℤ) → List ℤ
+copied first count source block = take first block ++ (take count (drop first source) ++ drop (first + count) block)
+
+-- so many words of block b, from word `first` on, stand in p's own block too
+abbrev pub copy_own : Cell → (p b first count : ℕ) → Cell
+copy_own c p b first count = with_own c p (copied first count (block_of c b) (block_of c (own_of c p)))
+
 -- the first words of p's own block are these
 abbrev pub refill_own : Cell → ℕ → List ℤ → Cell
 refill_own c p ws = with_own c p (refilled (block_of c (own_of c p)) ws)

@@ -5,7 +5,7 @@ use Rattle.std.specs.Int.{bit_at}
 use Rattle.ll_cell.specs.declared.form.Form.{Form}
 use Rattle.ll_cell.specs.declared.form.Place.{Place}
 use Rattle.ll_cell.specs.declared.form.Place.TheVariants.{Word, Bit}
-use Rattle.ll_cell.specs.Cell.{word_at, refilled}
+use Rattle.ll_cell.specs.Cell.{word_at, copied, refilled}
 use Rattle.ll_cell.specs.Form.{row_words, kept_words, place_of}
 
 pub record Rows : Type 0 where
@@ -18,6 +18,10 @@ row_of t b = slice_index_or t.rows b []
 -- word i of a block is w
 abbrev pub with_word : Rows → (row i : ℕ) → ℤ → Rows
 with_word t row i w = record t { rows = slice_set t.rows row (slice_set (row_of t row) i w) }
+
+-- so many words of block b, from word `first` on, stand in this block too
+abbrev pub with_copied : Rows → (row b first count : ℕ) → Rows
+with_copied t row b first count = record t { rows = slice_set t.rows row (copied first count (row_of t b) (row_of t row)) }
 
 -- f of 0 to n - 1
 abbrev pub listed : {X : Type 0} → ℕ → (ℕ → X) → List X

@@ -43,7 +43,7 @@ impl Model for Shared {
 }
 
 impl Shared {
-    ghost use Rattle.ll_cell.specs.Cell.{fresh, own_of, is_linked, block_of, announcement_of, word_at, link, exchange, write_own, announce_word};
+    ghost use Rattle.ll_cell.specs.Cell.{fresh, own_of, is_linked, block_of, announcement_of, word_at, link, exchange, copy_own, write_own, announce_word};
     ghost use Rattle.ll_cell.specs.Form.{whole, kept_words, IsBit, MayStand};
     ghost use Rattle.ll_cell.specs.Memory.{with_cell, MayAnnounce};
     ghost use Rattle.ll_cell.specs.Lending.{LendsOwnWords};
@@ -202,6 +202,18 @@ impl Shared {
         self.blocks.write_part(own, q, i, w);
     }
 
+    /// Copies so many words of a block into p's own, from word `first` on. None of them is a bit.
+    pub fn copy_words(&mut self, p: usize, block: usize, first: usize, count: usize)
+        requires owns { p < length self.old.cell.own }
+        requires own { own_of self.old.cell p < length self.old.cell.blocks }
+        requires block { block < length self.old.cell.blocks }
+        requires words { first + count ≤ self.old.form.head }
+        ensures { self.new ≡ with_cell self.old (copy_own self.old.cell p block first count) }
+    {
+        let own = self.own[p];
+        self.blocks.copy_front(own, block, first, count);
+    }
+
     /// Word i of p's announcement.
     pub fn read_announce(&self, p: usize, i: usize) -> i64
         requires process { p < length self.now.cell.announcements }
@@ -236,6 +248,15 @@ impl Shared {
         ensures { result.now ≡ take count (block_of self.now.cell self.now.cell.root) }
     {
         self.blocks.front(self.root, count)
+    }
+
+    /// The first words of a block, which are no bits.
+    pub fn block_words(&self, block: usize, count: usize) -> &[i64]
+        requires block { block < length self.now.cell.blocks }
+        requires words { count ≤ self.now.form.head }
+        ensures { result.now ≡ take count (block_of self.now.cell block) }
+    {
+        self.blocks.front(block, count)
     }
 
     /// The first words of p's own block, which are no bits, lent to be written; the rest of the

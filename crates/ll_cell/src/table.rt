@@ -33,7 +33,7 @@ impl Model for Table {
 }
 
 impl Table {
-    ghost use Rattle.ll_cell.specs.Rows.{row_of, with_word};
+    ghost use Rattle.ll_cell.specs.Rows.{row_of, with_copied, with_word};
     ghost use Rattle.ll_cell.specs.LendingRows.{LendsFront};
 
     /// So many blocks of 0s.
@@ -151,6 +151,18 @@ impl Table {
                 self.bits[row] = with_bit(bits, q, w);
             }
         }
+    }
+
+    /// Copies so many words of block b into a block, from word `first` on. None of them is a bit.
+    pub fn copy_front(&mut self, row: usize, b: usize, first: usize, count: usize)
+        requires row { row < length self.old.rows }
+        requires source { b < length self.old.rows }
+        requires words { first + count ≤ self.old.form.head }
+        ensures { self.new ≡ with_copied self.old row b first count }
+    {
+        let source = b * self.stride + first;
+        let place = row * self.stride + first;
+        self.words.copy_within(source..source + count, place);
     }
 
     /// The first words of a block.
