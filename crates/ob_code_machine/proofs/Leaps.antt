@@ -11,12 +11,11 @@ use Rattle.ob_code_machine.specs.declared.instr.Instr.{Instr}
 use Rattle.ob_code_machine.specs.declared.instr.Instr.TheVariants.{Literal, Global, Local, Field, Index, Get, Put, Add, Subtract, Multiply, Divide, Modulo, Negate, Not, Equal, NotEqual, Less, LessOrEqual, Greater, GreaterOrEqual, Jump, JumpIfFalse, AndJump, OrJump, Call, Frame, Return, Turn}
 use Rattle.ob_code_machine.specs.Words.{Made, Gives, Traps, Sticks, ◌>>=◌, made_of_one, made_of_two}
 use Rattle.ob_code_machine.specs.Effect.{effect, popped, pushed, of_two, loaded, word_at}
-use Rattle.ob_code_machine.specs.Machine.{Configuration, Outcome, Unfinished, Returned, Trapped, Stuck, act_at, turn, made_then, goes_on, goes_to, act, carried, computed}
+use Rattle.ob_code_machine.specs.Machine.{Configuration, Unfinished, Stuck, act_at, turn, made_then, goes_on, goes_to, act, carried, computed}
 use Rattle.ob_code_machine.specs.Body.{Run, Step, after, at, run_view, shown, step_of, steps}
-use Rattle.ob_code_machine.specs.Leaps.{AreMade, GoesOn, IsComputed, Lead, Leaps, MakesBoth}
+use Rattle.ob_code_machine.specs.Leaps.{AreMade, IsComputed, Lead, MakesBoth}
 use Rattle.ob_code_machine.specs.StackWords.{StackWords, with_words}
 use Rattle.ob_code_machine.specs.declared.saved.Saved.{Saved}
-use Rattle.ob_code_machine.specs.declared.turn.BodyTurn.{BodyTurn}
 use Rattle.ob_code_machine.specs.declared.turn.BodyTurn.TheVariants as Answer
 use Rattle.ob_code_machine.proofs.Tops.{TwoFound, popped_found, of_one_made, of_two_made}
 
@@ -207,37 +206,3 @@ pub made_if : (r : Bool) (code : List Instr) (old new : Run) (block : List ℤ) 
     → slice_get code old.body.pc ≡ Some first → slice_get code (old.body.pc + 1) ≡ Some second → MakesBoth r first second old new block → MatchBool r (AreMade code old new block) (new ≡ old)
 made_if true code old new block first second computes works here there h = both_made code old new block first second computes works here there h
 made_if false code old new block first second computes works here there h = h
-
--- ---- one of both
-
--- a step behind which nothing comes
-alone : (run : Run) (block : List ℤ) (o : Outcome) → after (shown run block o).turn (shown run block o) (record { turn = Answer.On; run = (shown run block o).run; block = (shown run block o).block }) ≡ shown run block o
-alone run block (Unfinished c) = refl
-alone run block (Returned left stack) = refl
-alone run block (Trapped k) = refl
-alone run block Stuck = refl
-
-first_alone : (code : List Instr) (old : Run) (block : List ℤ) (instr : Instr) → old.is_over ≡ false → slice_get code old.body.pc ≡ Some instr
-    → steps code 1 old block ≡ shown old block (act old.reserve instr (at old block))
-first_alone code old block instr works here =
-    let s : step_of code old block ≡ shown old block (act old.reserve instr (at old block)) =
-    ap (λ b. shown old block (if b then Stuck else turn code old.reserve (at old block))) works
-    ∙ ap (λ i. shown old block (act_at old.reserve i (at old block))) here in
-    alone old block (if old.is_over then Stuck else turn code old.reserve (at old block)) ∙ s
-
--- where both were made it was two steps, else one
-pub leapt : (made : Bool) (code : List Instr) (old mid new : Run) (block left : List ℤ) (turn : BodyTurn) (taken : ℕ) (instr : Instr) → old.is_over ≡ false
-    → slice_get code old.body.pc ≡ Some instr → MatchBool made (AreMade code old mid block) (mid ≡ old) → GoesOn made instr mid new block left turn taken → Leaps code old new block left turn taken
-leapt true code old mid new block left turn taken instr works here both (on, two, same, kept) =
-    subst (λ (n : ℕ). Leaps code old new block left turn n) (sym two)
-    (subst (λ (t : BodyTurn). Leaps code old new block left t 2) (sym on)
-    (subst (λ (l : List ℤ). Leaps code old new block l Answer.On 2) (sym kept)
-    (subst (λ (r : Run). Leaps code old r block block Answer.On 2) (sym same) (omega arith, omega arith, sym both))))
-leapt false code old mid new block left turn taken instr works here same (one, made) =
-    let step : record { turn = turn; run = new; block = left } ≡ shown old block (act old.reserve instr (at old block)) = made ∙ ap (λ (r : Run). shown r block (act r.reserve instr (at r block))) same in
-    subst (λ (n : ℕ). Leaps code old new block left turn n) (sym one) (omega arith, omega arith, step ∙ sym (first_alone code old block instr works here))
-
--- where nothing was made the body is still within the code
-pub within_if : (A : Type 0) (made : Bool) (old mid : Run) → MatchBool made A (mid ≡ old) → old.body.pc < 65535 → made ≡ false → mid.body.pc < 65535
-within_if A true old mid same within unmade = absurd cc
-within_if A false old mid same within unmade = subst (λ (r : Run). r.body.pc < 65535) (sym same) within

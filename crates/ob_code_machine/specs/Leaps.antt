@@ -1,10 +1,9 @@
 -- Two instructions that are made as one move.
-use Rattle.std.specs.Prelude.{◌≡◌, ◌+◌, ◌<◌, ◌≤◌, Bool, ℕ, ℤ, List, [], ◌∷◌, ◌++◌, length, MatchBool}
+use Rattle.std.specs.Prelude.{◌≡◌, ◌+◌, ◌<◌, Bool, ℕ, ℤ, List, [], ◌∷◌, ◌++◌, length, MatchBool}
 use Rattle.ob_code_machine.specs.declared.instr.Instr.{Instr}
-use Rattle.ob_code_machine.specs.declared.turn.BodyTurn.{BodyTurn}
 use Rattle.ob_code_machine.specs.declared.turn.BodyTurn.TheVariants as Answer
 use Rattle.ob_code_machine.specs.Machine.{Configuration, Unfinished, act, carried, computed}
-use Rattle.ob_code_machine.specs.Body.{Run, at, shown, steps}
+use Rattle.ob_code_machine.specs.Body.{Run, at, steps}
 
 -- an instruction without a jump
 abbrev pub IsComputed : Instr → Type 0
@@ -34,15 +33,3 @@ MakesBothOnAnyBlock r first second old new = (block : List ℤ) → MakesBoth r 
 -- where there is room, the word is on top behind both; else the body is as it was
 abbrev pub Brings : Bool → ℤ → (old new : Run) → Type 0
 Brings r word old new = MatchBool r ((length old.body.stack < old.reserve) × (new ≡ behind_both old (old.body.stack ++ word ∷ []))) (new ≡ old)
-
--- one step, or two
-abbrev pub Leaps : List Instr → (old new : Run) → (block left : List ℤ) → BodyTurn → (taken : ℕ) → Type 0
-Leaps code old new block left turn taken =
-    (0 < taken) × (taken ≤ 2) × (record { turn = turn; run = new; block = left } ≡ steps code taken old block)
-
--- where both are made nothing more is; else this instruction alone
-abbrev pub GoesOn : Bool → Instr → (old new : Run) → (block left : List ℤ) → BodyTurn → (taken : ℕ) → Type 0
-GoesOn made instr old new block left turn taken =
-    MatchBool made
-    ((turn ≡ Answer.On) × (taken ≡ 2) × (new ≡ old) × (left ≡ block))
-    ((taken ≡ 1) × (record { turn = turn; run = new; block = left } ≡ shown old block (act old.reserve instr (at old block))))

@@ -169,15 +169,6 @@ impl Body {
             Instr::Call { entry, parameters } => self.call(entry, parameters),
             Instr::Return => self.leave(),
             Instr::Turn => self.take_turn(),
-            Instr::Get => self.compute(Instr::Get, block),
-            Instr::Put => self.compute(Instr::Put, block),
-            Instr::Add => self.compute(Instr::Add, block),
-            Instr::Subtract => self.compute(Instr::Subtract, block),
-            Instr::Multiply => self.compute(Instr::Multiply, block),
-            Instr::Divide => self.compute(Instr::Divide, block),
-            Instr::Modulo => self.compute(Instr::Modulo, block),
-            Instr::Negate => self.compute(Instr::Negate, block),
-            Instr::Not => self.compute(Instr::Not, block),
             _ => self.compute(instr, block),
         }
     }

@@ -2,7 +2,7 @@
 
 ghost use Rattle.std.specs.Prelude.{◌≡◌, ◌+◌, ◌<◌, ◌≤◌, ◌↔◌, false, IsTrue, List, MatchBool, Some, slice_get, ℤ};
 ghost use Rattle.ob_code_machine.specs.Body.{steps};
-ghost use Rattle.ob_code_machine.specs.Leaps.{AreMade, Brings, GoesOn, IsComputed, Leaps, MakesBoth, MakesBothOnAnyBlock};
+ghost use Rattle.ob_code_machine.specs.Leaps.{AreMade, Brings, IsComputed, MakesBoth, MakesBothOnAnyBlock};
 ghost use Rattle.ob_code_machine.specs.declared.instr.Instr.TheVariants as Instrs;
 
 use super::Body;
@@ -23,65 +23,41 @@ impl Body {
         if self.is_over {
             return (BodyTurn::Stuck, 1);
         }
-        match code.instruction(self.pc) {
-            Some(instr) => self.leap_from(code, instr, block),
-            None => (BodyTurn::Stuck, 1),
-        }
-    }
-
-    /// The same, from this instruction. One jump leads to what each instruction does, alone or with the one behind it.
-    #[tactic(auto, using(crate::proofs::Leaps::made_if, crate::proofs::Leaps::leapt))]
-    #[inline(always)]
-    fn leap_from(&mut self, code: &Code, instr: Instr, block: &mut [i64]) -> (BodyTurn, u64)
-        requires works { self.old.is_over ≡ false }
-        requires here { slice_get code.now.instructions self.old.body.pc ≡ Some instr }
-        requires within { self.old.body.pc < 65535 }
-        ensures { Leaps code.now.instructions self.old self.new block.old block.new result.0 result.1 }
-    {
-        match instr {
-            Instr::Local { word } => {
-                let made = self.is_got(code) && self.get_local(word, block);
-                self.both_or_one(made, instr, block)
-            }
-            Instr::Global { word } => {
-                let made = self.is_got(code) && self.get_global(word, block);
-                self.both_or_one(made, instr, block)
-            }
-            Instr::Field { offset } => {
-                let made = self.is_got(code) && self.get_field(offset, block);
-                self.both_or_one(made, instr, block)
-            }
-            Instr::Index {
-                length,
-                element_words,
-            } => {
-                let made = self.is_got(code) && self.get_element(length, element_words, block);
-                self.both_or_one(made, instr, block)
-            }
-            Instr::Literal { value } => {
-                let made = self.is_operand(code, value);
-                self.both_or_one(made, instr, block)
-            }
-            Instr::Equal => self.condition_or_one(code, Instr::Equal, block),
-            Instr::NotEqual => self.condition_or_one(code, Instr::NotEqual, block),
-            Instr::Less => self.condition_or_one(code, Instr::Less, block),
-            Instr::LessOrEqual => self.condition_or_one(code, Instr::LessOrEqual, block),
-            Instr::Greater => self.condition_or_one(code, Instr::Greater, block),
-            Instr::GreaterOrEqual => self.condition_or_one(code, Instr::GreaterOrEqual, block),
-            _ => (self.act(instr, block), 1),
-        }
-    }
-
-    /// Nothing more where both instructions were made; else the first one alone.
-    #[inline(always)]
-    fn both_or_one(&mut self, made: bool, instr: Instr, block: &mut [i64]) -> (BodyTurn, u64)
-        requires { made ≡ false → self.old.body.pc < 65535 }
-        ensures { GoesOn made instr self.old self.new block.old block.new result.0 result.1 }
-    {
-        if made {
+        let Some(instr) = code.instruction(self.pc) else {
+            return (BodyTurn::Stuck, 1);
+        };
+        if self.makes_both(code, instr, block) {
             return (BodyTurn::On, 2);
         }
         (self.act(instr, block), 1)
+    }
+
+    /// Whether the instruction at the body's place and the one behind it were made as one move.
+    #[tactic(auto, using(crate::proofs::Leaps::made_if))]
+    #[inline(always)]
+    fn makes_both(&mut self, code: &Code, instr: Instr, block: &[i64]) -> bool
+        requires works { self.old.is_over ≡ false }
+        requires here { slice_get code.now.instructions self.old.body.pc ≡ Some instr }
+        requires within { self.old.body.pc < 65535 }
+        ensures { MatchBool result (AreMade code.now.instructions self.old self.new block.now) (self.new ≡ self.old) }
+    {
+        match instr {
+            Instr::Local { word } => self.is_got(code) && self.get_local(word, block),
+            Instr::Global { word } => self.is_got(code) && self.get_global(word, block),
+            Instr::Field { offset } => self.is_got(code) && self.get_field(offset, block),
+            Instr::Index {
+                length,
+                element_words,
+            } => self.is_got(code) && self.get_element(length, element_words, block),
+            Instr::Literal { value } => self.is_operand(code, value),
+            Instr::Equal => self.is_condition(code, Instr::Equal),
+            Instr::NotEqual => self.is_condition(code, Instr::NotEqual),
+            Instr::Less => self.is_condition(code, Instr::Less),
+            Instr::LessOrEqual => self.is_condition(code, Instr::LessOrEqual),
+            Instr::Greater => self.is_condition(code, Instr::Greater),
+            Instr::GreaterOrEqual => self.is_condition(code, Instr::GreaterOrEqual),
+            _ => false,
+        }
     }
 
     /// Whether the next instruction but one is GET.
@@ -125,20 +101,6 @@ impl Body {
             Some(Instr::JumpIfFalse { target }) => self.test(instr, target),
             _ => false,
         }
-    }
-
-    /// A comparison with the jump behind it, or alone.
-    #[tactic(auto, using(crate::proofs::Leaps::leapt))]
-    #[inline(always)]
-    fn condition_or_one(&mut self, code: &Code, instr: Instr, block: &mut [i64]) -> (BodyTurn, u64)
-        requires works { self.old.is_over ≡ false }
-        requires computed { IsComputed instr }
-        requires here { slice_get code.now.instructions self.old.body.pc ≡ Some instr }
-        requires within { self.old.body.pc < 65535 }
-        ensures { Leaps code.now.instructions self.old self.new block.old block.new result.0 result.1 }
-    {
-        let made = self.is_condition(code, instr);
-        self.both_or_one(made, instr, block)
     }
 
     /// Puts a word on top and goes on behind two instructions, where there is room for it.
