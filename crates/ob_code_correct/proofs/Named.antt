@@ -34,7 +34,9 @@ module _ (program : Program) (budget : ℕ) (good : IsResolved program) where
       }
 
   pub names_simulate : Simulates (Fits program) IsNamed (CallEnds program budget) (CallMeans program budget)
-  names_simulate call here after there reply fit = signed_to_names call here after there reply ((fitting_signed program call).signed fit)
+  names_simulate call here after there reply fit is does =
+      let f = signed_to_names call here after there reply ((fitting_signed program call).signed fit) is does in
+      record { next = f.next; ends = f.ends; is = f.is }
 
   -- and the other way round
   pub signed_to_positions : Simulates (CallFits (signatures program)) IsPlaced (CallMeans program budget) (CallEnds program budget)
@@ -48,7 +50,9 @@ module _ (program : Program) (budget : ℕ) (good : IsResolved program) where
       }
 
   pub positions_simulate : Simulates (Fits program) IsPlaced (CallMeans program budget) (CallEnds program budget)
-  positions_simulate call here after there reply fit = signed_to_positions call here after there reply ((fitting_signed program call).signed fit)
+  positions_simulate call here after there reply fit is does =
+      let f = signed_to_positions call here after there reply ((fitting_signed program call).signed fit) is does in
+      record { next = f.next; ends = f.ends; is = f.is }
 
 pub positions_carry : PositionsCarryLegal
 positions_carry program budget good =

@@ -1,20 +1,17 @@
 //! The calls of a record's order, each as it began.
 
-ghost use Rattle.std.specs.HashMap as hash;
-ghost use Rattle.std.specs.Prelude.{◌≡◌, IfErr, IfOk, OnOk, Some, map, slice_get};
+ghost use Rattle.std.specs.Prelude.{◌≡◌, IfErr, IfOk, Some, map, slice_get};
 ghost use Rattle.ob_explained_traps.specs.RecordTraps.{AreBegun, IsUnbegun};
 ghost use Rattle.ob_mean.specs.View.{call_of};
-ghost use Rattle.ob_object_calls.specs.Begins.{AreBegins};
-ghost use Rattle.ob_object_run.specs.Places.{BeginsAt, begin_noted, same_id};
+ghost use Rattle.ob_object_run.specs.Places.{BeginsAt};
 ghost use Rattle.wf_history.specs.History.{Begin};
 ghost use Rattle.wf_history.specs.View.{event_of, seen_call};
 ghost use Rattle.wf_history.specs.declared.event.CallId.{CallId};
 
-use ob_interface::NoMemory;
 use ob_mean::call::Call;
+use ob_object_calls::begins::begins_of;
 use ob_object_run::OrderFault;
 use std::alloc::{AllocError, Global};
-use std::collections::HashMap;
 use wf_history::{CallId, Event, SeenCall, SeenEvent};
 
 /// The calls of these names, as they began among these events; or a name of which no call began.
@@ -36,31 +33,6 @@ pub(crate) fn order_calls(
         calls.push(call)?;
     }
     Ok(calls)
-}
-
-/// The places of the Begins of these events.
-fn begins_of(alloc: Global, events: &[Event]) -> Result<HashMap<CallId, usize>, NoMemory>
-    ensures { IfOk result (λ begins. AreBegins (map event_of events.now) (hash.get same_id begins)) }
-{
-    let mut begins = HashMap::new(alloc);
-    for (place, event) in events.iter().enumerate() {
-        note(&mut begins, place, event)?;
-    }
-    Ok(begins)
-}
-
-/// Takes up the event at a place.
-fn note(begins: &mut HashMap<CallId, usize>, place: usize, event: &Event) -> Result<(), NoMemory>
-    ensures { OnOk result ((q : CallId) → hash.get same_id begins.new q ≡ begin_noted place (event_of event.now) q (hash.get same_id begins.old q)) }
-{
-    match event.seen() {
-        SeenEvent::Begin(id, _) => {
-            begins.insert(id, place)?;
-        }
-        SeenEvent::Applied(_) => {}
-        SeenEvent::End(_, _) => {}
-    }
-    Ok(())
 }
 
 /// The call that begins at a place.

@@ -8,7 +8,6 @@ pub mod FieldNames
 pub mod Found
 pub mod Fronts
 mod Meant
-mod Moments
 pub mod Names
 pub mod Numbers
 pub mod OneEnd

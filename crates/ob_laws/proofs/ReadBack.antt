@@ -16,7 +16,8 @@ use Rattle.ob_laws.specs.Writable.{AreCarried, IsNamed, IsReadBack, IsWritable, 
 use Rattle.ob_laws.proofs.DeclaredNames.{module_words}
 use Rattle.ob_laws.proofs.ExportNames.{own_named}
 use Rattle.ob_laws.proofs.Fronts.{history_front, history_without, same_calls, without-append}
-use Rattle.ob_laws.proofs.Numbers.{id_named, numeral}
+use Rattle.ob_laws.proofs.Numbers.{id_named}
+use Rattle.ob_text_values_reading.proofs.Numerals.{numeral}
 use Rattle.ob_laws.proofs.PlainWords.{lines_of_text}
 use Rattle.ob_laws.proofs.ReadValues.{values_read}
 use Rattle.ob_laws.proofs.SaidValues.{lines_open}

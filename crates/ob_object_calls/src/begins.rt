@@ -13,7 +13,7 @@ use std::collections::HashMap;
 use wf_history::{CallId, Event, SeenEvent};
 
 /// The places of the Begins of these events.
-pub(crate) fn begins_of(alloc: Global, events: &[Event]) -> Result<HashMap<CallId, usize>, NoMemory>
+pub fn begins_of(alloc: Global, events: &[Event]) -> Result<HashMap<CallId, usize>, NoMemory>
     ensures { IfOk result (λ begins. AreBegins (map event_of events.now) (hash.get same_id begins)) }
 {
     let mut begins = HashMap::new(alloc);

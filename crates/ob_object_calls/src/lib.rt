@@ -5,7 +5,7 @@
 #![tactic(auto)]
 
 pub mod beginning;
-mod begins;
+pub mod begins;
 pub mod call_outcome;
 pub mod call_outcome_text;
 pub mod calls;

@@ -1,11 +1,11 @@
 -- Outcomes by position are outcomes by name.
-use Rattle.std.proofs.Common.{◌∙◌, ap, sym, subst, refl, ℕ, List}
+use Rattle.std.proofs.Common.{subst, refl, ℕ, List}
 use Rattle.std.proofs.Math.Logic.{∥∥₁_map}
-use Rattle.ob_meaning.proofs.SameCalls.{call_same}
 use Rattle.ob_meaning.specs.Resolved.{IsResolved}
 use Rattle.ob_meaning.specs.Same.{SameState}
 use Rattle.ob_carry.proofs.Carried.{one_state}
 use Rattle.ob_checked.specs.Exports.{signatures}
+use Rattle.ob_code_correct.proofs.Named.{signed_to_names, signed_to_positions}
 use Rattle.ob_code_correct.specs.Carried.{Simulates}
 use Rattle.ob_code_correct.specs.Named.{CallMeans}
 use Rattle.ob_interface.specs.Call.{ObjectCall, Reply}
@@ -14,7 +14,6 @@ use Rattle.ob_meaning.specs.ByNameObject as Named
 use Rattle.ob_object_run.specs.LegalOrder.{CallEnds}
 use Rattle.ob_object_outcomes.proofs.OutcomesSimulated.{EachFits, answers_there, leads_there, over, step_there}
 use Rattle.ob_object_outcomes.specs.Questions.{FailsFirst, Holds, question_call, yes}
-use Rattle.ob_meaning.specs.ByPositionObject.{Effect, effect}
 use Rattle.ob_meaning.specs.ByPositionStore.{Activation}
 use Rattle.ob_typing.specs.Program.{Program}
 use Rattle.wf_history.specs.declared.event.CallId.{CallId}
@@ -40,24 +39,10 @@ module _ (program : Program) (budget : ℕ) (good : IsResolved program) where
   Meant = CallMeans program budget
 
   by_name : Simulates fits IsNamed Placed Meant
-  by_name call here after there reply fit is does =
-      let same = call_same program good call fit budget there here is in
-      let named = Named.effect program call budget there in
-      record {
-        next = named.state;
-        ends = ap (λ (r : Reply). record { state = named.state; reply = r }) (same.reply ∙ ap (λ (e : Effect). e.reply) does);
-        is = subst (λ (e : Effect). SameState program named.state e.state) does same.state;
-      }
+  by_name = signed_to_names program budget good
 
   by_place : Simulates fits IsPlaced Meant Placed
-  by_place call here after there reply fit is does =
-      let same = call_same program good call fit budget here there is in
-      let found = effect program call budget there in
-      record {
-        next = found.state;
-        ends = ap (λ (r : Reply). record { state = found.state; reply = r }) (sym same.reply ∙ ap (λ (e : Named.Effect). e.reply) does);
-        is = subst (λ (e : Named.Effect). SameState program e.state found.state) does same.state;
-      }
+  by_place = signed_to_positions program budget good
 
   module _ (scripts : List (List ObjectCall)) (each : EachFits fits scripts) (opening : Named.State) (placed : Activation) (same : SameState program opening placed) where
     possible_placed : (id : CallId) (reply : Reply) → IsPossible Meant scripts opening id reply → IsPossible Placed scripts placed id reply

@@ -2,7 +2,7 @@ mod Arranging
 pub mod Chain
 mod Checks
 mod Early
-mod Engines
+pub mod Engines
 pub mod Faults
 mod InTurn
 mod Interpreting
@@ -10,4 +10,4 @@ mod Noting
 mod Placing
 mod Replay
 mod Sequential
-mod Submissions
+pub mod Submissions

@@ -1,8 +1,9 @@
-use Rattle.std.proofs.Common.{◌++◌, ◌∙◌, ap, refl, sym}
+use Rattle.std.proofs.Common.{◌++◌, ◌∙◌, ap, sym}
 use Rattle.ob_code_correct.specs.CodeMeaning.{code_meaning}
 use Rattle.ob_code_correct.specs.Compiled.{IsFitting}
 use Rattle.ob_code_scheme.specs.Layout.{encoded}
-use Rattle.ob_laws.proofs.Moments.{fit_up_to, parted}
+use Rattle.ob_object_run.proofs.Engines.{reached}
+use Rattle.ob_object_run.proofs.Submissions.{acts_split, fits_first}
 use Rattle.wf_play.specs.Played.{scripts_of}
 use Rattle.wf_table.specs.Runs.{performed, run, submissions, turns}
 use Rattle.wf_table.specs.Schedule.{steps_of}
@@ -20,7 +21,7 @@ returns c = λ a scripts output s first rest split.
     let last = record_of.state in
     let runs = record_of.runs in
     let acts = submissions own ++ turns first in
-    let all = parted own last.records.schedule first rest (ap steps_of (sym record_of.schedule) ∙ split) in
-    let fit = fit_up_to (IsFitting parts.exports) (performed own last.records.schedule) acts (turns rest) all runs.fit in
+    let all = acts_split own last.records.schedule first rest (ap steps_of (sym record_of.schedule) ∙ split) in
+    let fit = fits_first (IsFitting parts.exports) (performed own last.records.schedule) acts (turns rest) all runs.fit in
     c.engines_keep_total.ensures parts n block acts (run m (sizes_of m n) acts runs.start)
-    (record { some = runs.some; few = runs.few; opens = runs.opens; fit = fit; start = runs.start; begins = runs.begins; leads = refl })
+    (reached parts n block (performed own last.records.schedule) last runs acts fit)
