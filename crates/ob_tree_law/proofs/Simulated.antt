@@ -1,5 +1,5 @@
 -- After every number of steps the engine over the tree shows what the engine over the code shows.
-use Rattle.std.proofs.Common.{◌≡◌, ℕ, zero, suc, Bool, true, false, ℤ, List, [], ◌∷◌, length, Option, Some, None, refl, sym, ap, subst}
+use Rattle.std.proofs.Common.{◌≡◌, ℕ, zero, suc, ◌+◌, Bool, true, false, ℤ, List, [], ◌∷◌, length, Option, Some, None, refl, sym, ap, subst}
 use Rattle.std.specs.Prelude.{slice_get, nat_le, if◌then◌else◌}
 use Rattle.ob_typing.specs.Program.{Procedure, Program}
 use Rattle.ob_code_scheme.specs.Types.{Scope, variables_scope}
