@@ -11,3 +11,4 @@ mod InARow
 mod InBody
 mod Staying
 mod Progressing
+mod Copying

@@ -7,4 +7,5 @@ pub mod Halted
 pub mod Quiet
 pub mod InARow
 pub mod Progress
+pub mod Blocks
 pub mod InBody

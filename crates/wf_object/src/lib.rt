@@ -1,6 +1,7 @@
 //! Any lawful sequential engine as an object that n processes share, one atomic step at a time.
 #![tactic(auto)]
 
+mod blocks;
 mod bodies;
 pub mod engine;
 pub mod fault;

@@ -5,13 +5,15 @@ ghost use Rattle.wf_object.specs.Packed.{packed};
 ghost use Rattle.wf_object.specs.Progress.{AreUnmarked, IsInObject, by_rows, progress, progress_on};
 ghost use Rattle.wf_table.specs.Ranges.{IsSized, IsShaped, IsInRange};
 ghost use Rattle.wf_table.specs.Toggles.{StoresBit};
+ghost use Rattle.wf_table.specs.declared.process.Label.TheVariants as Labels;
 
+use crate::blocks::{load_words, save_words, words_ahead};
 use crate::bodies::stay;
 use crate::engine::Engine;
 use crate::process::Process;
 use crate::steps::{
-    behind_fetch, check, enter, fetch, keep, link, load, mine, post, read, save, seen, store,
-    take_reply, try_round, undo,
+    behind_fetch, check, enter, fetch, keep, link, load, mine, post, read, seen, store, take_reply,
+    try_round, undo,
 };
 use ll_cell::Shared;
 use wf_records::spent::{count_inside, count_outside};
@@ -145,14 +147,14 @@ fn take_some<E: Engine>(
         Label::Post | Label::Read | Label::Take => 0,
         Label::Try => counted(outside, try_round(q)),
         Label::Link => counted(outside, link(shared, q, p)),
-        Label::Load => copy_words(engine, z, shared, q, spent, outside, p, most),
+        Label::Load => load_some(engine, z, shared, q, spent, outside, p, most),
         Label::Store => counted(outside, store(z, shared, q, p)),
         Label::Check1 => counted(outside, check(shared, q, p, Label::Mine)),
         Label::Mine => counted(outside, mine(z, shared, q, p)),
         Label::Seen => counted(outside, seen(z, shared, q, p)),
         Label::Fetch => counted(outside, fetch(z, shared, q)),
         Label::Check2 => counted(outside, check(shared, q, p, behind_fetch(z))),
-        Label::Save => counted(outside, save(z, shared, q, p)),
+        Label::Save => save_some(engine, z, shared, q, spent, outside, p, most),
         Label::Enter => {
             enter(engine, q);
             spent.bodies += 1;
@@ -167,6 +169,74 @@ fn take_some<E: Engine>(
         Label::Undo => counted(outside, undo(z, shared, q, p)),
         Label::Keep => counted(outside, keep(engine, z, shared, q, p)),
     }
+}
+
+/// Words of the linked block are brought over, by LOAD and STORE each: of variables as many as there is room for as one move, else by
+/// words; and how many steps these are.
+#[inline(always)]
+fn load_some<E: Engine>(
+    engine: &E,
+    z: Sizes,
+    shared: &mut Shared,
+    q: &mut Process<E::Run>,
+    spent: &Spent,
+    outside: &mut u64,
+    p: usize,
+    most: u64,
+) -> u64
+    requires object { IsInObject (E.meaning engine.now) (E.lawful engine.now) (E.fits engine.now) (E.ready engine.now) z p (progress_on shared.old.cell q.old spent.now outside.old) }
+    requires sized { IsSized z }
+    requires shaped { IsShaped z shared.old.cell }
+    requires packed { shared.old.form ≡ packed z }
+    requires process { p < z.processes }
+    requires in_range { IsInRange z q.old }
+    requires here { q.old.label ≡ Labels.Load }
+    requires room_outside { outside.old + most < 2 ^ 64 }
+    ensures few { result ≤ most }
+    ensures outside { outside.new ≤ outside.old + result }
+    ensures leads { progress_on shared.new.cell q.new spent.now outside.new ≡ by_rows (E.meaning engine.now) z p result (progress_on shared.old.cell q.old spent.now outside.old) }
+    ensures form { shared.new.form ≡ shared.old.form }
+    ensures unmarked { AreUnmarked (E.meaning engine.now) z p result (progress_on shared.old.cell q.old spent.now outside.old) }
+{
+    let words = words_ahead(z, q.registers.i, most / 2);
+    if words == 0 {
+        return copy_words(engine, z, shared, q, spent, outside, p, most);
+    }
+    load_words(z, shared, q, p, words);
+    let steps = 2 * (words as u64);
+    *outside += steps;
+    steps
+}
+
+/// Words of the own block are saved, as many as there is room for as one move; and how many steps these are.
+#[inline(always)]
+fn save_some<E: Engine>(
+    _engine: &E,
+    z: Sizes,
+    shared: &Shared,
+    q: &mut Process<E::Run>,
+    spent: &Spent,
+    outside: &mut u64,
+    p: usize,
+    most: u64,
+) -> u64
+    requires sized { IsSized z }
+    requires shaped { IsShaped z shared.now.cell }
+    requires packed { shared.now.form ≡ packed z }
+    requires process { p < z.processes }
+    requires in_range { IsInRange z q.old }
+    requires here { q.old.label ≡ Labels.Save }
+    requires room_outside { outside.old + most < 2 ^ 64 }
+    ensures few { result ≤ most }
+    ensures outside { outside.new ≤ outside.old + result }
+    ensures leads { progress_on shared.now.cell q.new spent.now outside.new ≡ by_rows (E.meaning _engine.now) z p result (progress_on shared.now.cell q.old spent.now outside.old) }
+    ensures unmarked { AreUnmarked (E.meaning _engine.now) z p result (progress_on shared.now.cell q.old spent.now outside.old) }
+{
+    let words = words_ahead(z, q.registers.i, most);
+    save_words(z, shared, q, p, words);
+    let steps = words as u64;
+    *outside += steps;
+    steps
 }
 
 /// Words of the linked block are brought over, by LOAD and STORE each, while there is room for both; and how many steps these are.

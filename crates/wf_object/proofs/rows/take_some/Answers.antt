@@ -1,6 +1,6 @@
 use Rattle.std.proofs.Common.{◌≡◌, ◌+◌, ap, refl, sym, subst, ◌∙◌}
 use Rattle.wf_table.specs.declared.process.Label.{Label}
-use Rattle.wf_table.specs.declared.process.Label.TheVariants.{Try, Link, Store, Check1, Mine, Seen, Fetch, Check2, Save, Enter, Body, Undo, Keep}
+use Rattle.wf_table.specs.declared.process.Label.TheVariants.{Try, Link, Store, Check1, Mine, Seen, Fetch, Check2, Enter, Body, Undo, Keep}
 use Rattle.wf_table.specs.Table.{cell_after, check, row}
 use Rattle.wf_table.specs.declared.spent.Spent.{Spent}
 use Rattle.wf_table.specs.Spent.{has_more, spent_after}
@@ -111,14 +111,6 @@ returns-in-Check2-clause-leads g c =
 pub returns-in-Check2-clause-unmarked : goal.returns-in-Check2-clause-unmarked
 returns-in-Check2-clause-unmarked g c =
     plain_row_unmarked (g.E.Engine.meaning c.args.engine.now) c.args.z c.args.p Check2 c.args.shared.now.cell c.args.q.now (outside_more c.args.spent.now c.args.outside.now) c.counted-in-Check2.result refl (rw (← c.q.view_is) c.in-Check2.is) c.counted-in-Check2.ensures.one
-
-pub returns-in-Save-clause-leads : goal.returns-in-Save-clause-leads
-returns-in-Save-clause-leads g c =
-    plain_row (g.E.Engine.meaning c.args.engine.now) c.args.z c.args.p Save c.args.shared.now.cell c.args.shared.now.cell c.args.q.now c.save.new.q c.args.spent.now c.args.outside.now c.counted-in-Save.new.outside c.counted-in-Save.result refl (rw (← c.q.view_is) c.in-Save.is) c.counted-in-Save.ensures.more c.counted-in-Save.ensures.one (refl) (c.save.ensures)
-
-pub returns-in-Save-clause-unmarked : goal.returns-in-Save-clause-unmarked
-returns-in-Save-clause-unmarked g c =
-    plain_row_unmarked (g.E.Engine.meaning c.args.engine.now) c.args.z c.args.p Save c.args.shared.now.cell c.args.q.now (outside_more c.args.spent.now c.args.outside.now) c.counted-in-Save.result refl (rw (← c.q.view_is) c.in-Save.is) c.counted-in-Save.ensures.one
 
 pub returns-in-Undo-clause-leads : goal.returns-in-Undo-clause-leads
 returns-in-Undo-clause-leads g c =
