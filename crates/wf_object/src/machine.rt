@@ -27,8 +27,8 @@ use ob_interface::{MOST_PROCESSES, NoMemory};
 use std::alloc::Global;
 use std::marker::Model;
 use wf_history::{CallId, History};
-use wf_records::{Records, Seen, StepOut};
 use wf_records::spent::{bound_of, count_inside, count_step};
+use wf_records::{Records, Seen, StepOut};
 use wf_table::{Label, Sizes, Spent, Turns};
 
 /// An object of n processes over an engine: its cell, its processes, and what was seen.

@@ -24,8 +24,8 @@ use ob_interface::NoMemory;
 use smallvec::SmallVec;
 use std::alloc::Global;
 use wf_history::{CallId, KeptCall, KeptReply};
-use wf_records::{Records, StepOut};
 use wf_records::spent::count_step;
+use wf_records::{Records, StepOut};
 use wf_table::{Label, Sizes, Spent};
 
 /// Whether a step at the label shows nothing.
