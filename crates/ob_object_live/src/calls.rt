@@ -1,20 +1,17 @@
 //! One call and what is told of it.
 
-ghost use Rattle.std.specs.Prelude.{◌≡◌, ◌++◌, IfOk, OnErr, OnOk, codes, map, slice_get, string_bytes};
+ghost use Rattle.std.specs.Prelude.{◌≡◌, ◌++◌, IfOk, OnOk, codes, map, string_bytes};
 ghost use Rattle.ob_interface.specs.View.{signature_of};
 ghost use Rattle.ob_mean.specs.View.{call_of, reply_of};
 ghost use Rattle.ob_object_live.specs.Living.{applied_text, call_text};
 ghost use Rattle.ob_text_words.specs.ReplyLines.{reply_line};
-ghost use Rattle.ob_text_record.specs.RecordText.{begin_text, id_text, name_of, scalars_text};
-ghost use Rattle.ob_text_words.specs.Appending.{GoesOn};
+ghost use Rattle.ob_text_record.specs.RecordText.{begin_text, id_text};
 ghost use Rattle.ob_text_words.specs.ScriptCalls.{object_call, script_call_of};
 
 use ob_interface::export::Export;
-use ob_interface::scalar::Scalar;
 use ob_mean::call::{Call, Reply};
-use ob_text_record::push_id;
+use ob_text_record::{export_name, push_id, push_scalars};
 use ob_text_words::reply_lines::{push_done_line, push_trap_line};
-use ob_text_words::scalar_words::push_value;
 use ob_text_words::script_call::ScriptCall;
 use std::alloc::{AllocError, Global};
 use wf_history::CallId;
@@ -61,28 +58,6 @@ fn push_begin(
     text.push_str(export_name(exports, call.proc))?;
     push_scalars(text, call.args.as_slice())?;
     text.push_str("\n")
-}
-
-/// The name of an export.
-fn export_name(exports: &[Export], number: usize) -> &str
-    ensures { result.now ≡ name_of (slice_get (map signature_of exports.now) number) }
-{
-    match exports.get(number) {
-        Some(export) => export.name.as_str(),
-        None => "",
-    }
-}
-
-/// Appends values, each with a space before it.
-fn push_scalars(text: &mut String, values: &[Scalar]) -> Result<(), AllocError>
-    ensures ok { OnOk result (string_bytes text.new ≡ string_bytes text.old ++ scalars_text values.now) }
-    ensures left { OnErr result (GoesOn (string_bytes text.old) (string_bytes text.new)) }
-{
-    for value in values {
-        text.push_str(" ")?;
-        push_value(text, *value)?;
-    }
-    Ok(())
 }
 
 /// Appends the line of a call that takes effect.

@@ -1,6 +1,6 @@
 //! What happens along calls.
 
-ghost use Rattle.std.specs.Prelude.{◌≡◌, ◌++◌, IfOk, OnOk, map, option_map, slice_get, string_bytes};
+ghost use Rattle.std.specs.Prelude.{◌≡◌, ◌++◌, IfOk, OnOk, map, option_map, string_bytes};
 ghost use Rattle.std.specs.Option.{option_copied};
 ghost use Rattle.ob_checked.specs.CheckedModule.{program_in};
 ghost use Rattle.ob_interface.specs.View.{signature_of};
@@ -10,7 +10,7 @@ ghost use Rattle.ob_object_outcomes.specs.Stories.{TellsStory, called, made_line
 ghost use Rattle.ob_meaning.specs.ByPositionObject.{effect};
 ghost use Rattle.ob_text_words.specs.ReplyLines.{reply_line};
 ghost use Rattle.ob_store.specs.View.{state_of};
-ghost use Rattle.ob_text_record.specs.RecordText.{begin_text, name_of, scalars_text};
+ghost use Rattle.ob_text_record.specs.RecordText.{begin_text};
 ghost use Rattle.wf_history.specs.View.{kept_call};
 ghost use Rattle.wf_outcomes.specs.Explored.{calls_in};
 
@@ -19,14 +19,12 @@ use crate::ending::{Failure, ending};
 use ob_checked::checked::Checked;
 use ob_interface::NoMemory;
 use ob_interface::export::Export;
-use ob_interface::scalar::Scalar;
 use ob_mean::call::{Call, Reply};
 use ob_mean::object::step;
 use ob_store::state::State;
-use ob_text_record::push_id;
 use ob_text_record::variables::{push_opening, push_state};
+use ob_text_record::{export_name, push_id, push_scalars};
 use ob_text_words::reply_lines::{push_done_line, push_trap_line};
-use ob_text_words::scalar_words::push_value;
 use std::alloc::{AllocError, Global};
 use wf_history::{CallId, KeptCall};
 
@@ -161,27 +159,6 @@ fn push_begin(
     text.push_str(export_name(exports, call.proc))?;
     push_scalars(text, call.args.lent().as_slice())?;
     text.push_str("\n")
-}
-
-/// The name of an export.
-fn export_name(exports: &[Export], number: usize) -> &str
-    ensures { result.now ≡ name_of (slice_get (map signature_of exports.now) number) }
-{
-    match exports.get(number) {
-        Some(export) => export.name.as_str(),
-        None => "",
-    }
-}
-
-/// Appends values, each with a space before it.
-fn push_scalars(text: &mut String, values: &[Scalar]) -> Result<(), AllocError>
-    ensures { OnOk result (string_bytes text.new ≡ string_bytes text.old ++ scalars_text values.now) }
-{
-    for value in values {
-        text.push_str(" ")?;
-        push_value(text, *value)?;
-    }
-    Ok(())
 }
 
 /// Appends the line of a call that ends.

@@ -1,5 +1,5 @@
 -- The engine over a program's tree is in lock-step with the engine over the code of the scheme, of whatever length.
-use Rattle.std.proofs.Common.{◌≡◌, ℕ, ◌+◌, Bool, true, false, ℤ, List, [], ◌∷◌, length, Option, Some, None, refl, sym, ap, subst}
+use Rattle.std.proofs.Common.{◌≡◌, ℕ, ◌+◌, Bool, true, false, ℤ, List, [], length, Option, Some, None, refl, sym, ap, subst}
 use Rattle.std.specs.Prelude.{pos, slice_get, slice_index_or, nat_le, if◌then◌else◌}
 use Rattle.ob_code_correct.specs.CodeMeaning.{Entrance, arguments_in, entrance_at, first_word, other_words, started, turned}
 use Rattle.ob_code_correct.specs.Compiled.{engine_of, entrances_from, parts_of}
