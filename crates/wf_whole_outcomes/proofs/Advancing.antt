@@ -5,9 +5,9 @@ use Rattle.std.proofs.lemmas.List.{length-map}
 use Rattle.std.proofs.lemmas.Option.{slice_get-get_or}
 use Rattle.std.specs.List.{slice_get}
 use Rattle.wf_history.proofs.Positions.{contains_at, place_of}
-use Rattle.wf_whole_outcomes.specs.Graph.{Spot, AreApart, GoesOn, IsNarrow, edge_from, next_from, spot_on}
+use Rattle.wf_whole_outcomes.specs.Graph.{Spot, GoesOn, IsNarrow, edge_from, next_from, spot_on}
 use Rattle.wf_whole_outcomes.specs.Layers.{IsGrowing, GrowsOver}
-use Rattle.wf_whole_outcomes.specs.Nodes.{AreNodes, IsArrived, IsGrown, IsNode, lists_in, spot_in, spots_in}
+use Rattle.wf_whole_outcomes.specs.Nodes.{AreLists, AreNodes, IsArrived, IsGrown, IsNode, lists_in, spot_in, spots_in}
 use Rattle.wf_whole_outcomes.specs.declared.edges.Edge.{Edge}
 use Rattle.wf_whole_outcomes.specs.declared.growing.Came.{Came}
 use Rattle.wf_whole_outcomes.specs.declared.growing.Growing.{Growing}
@@ -59,7 +59,7 @@ module _ (rows : List (List (Option Edge))) (processes : ℕ) where
 
     pub all_tried : IsNarrow rows processes → step ≡ processes → IsGrown rows processes layer (place + 1) 0 g
     all_tried narrow end = record {
-      apart = h.apart;
+      lists = h.lists;
       before = h.before;
       nodes = h.nodes;
       growing = next_place (next_from rows) (spots_in lists layer) place step g.came.items (spots_in lists g.layer.keys) h.growing
@@ -69,14 +69,14 @@ module _ (rows : List (List (Option Edge))) (processes : ℕ) where
     module _ (node : Node) (at : slice_get layer place ≡ Some node) where
       pub none_tried : edge_from rows node.place step ≡ None → IsGrown rows processes layer place (step + 1) g
       none_tried none = record {
-        apart = h.apart;
+        lists = h.lists;
         before = h.before;
         nodes = h.nodes;
         growing = tried_none (next_from rows) (spots_in lists layer) place step g.came.items (spots_in lists g.layer.keys) h.growing
             (spot_in lists node) (in_map (spot_in lists) layer place node at) (ap (option_map (spot_on (spot_in lists node) step)) none);
       }
 
-      module _ (edge : Edge) (leads : edge_from rows node.place step ≡ Some edge) (is_node : IsNode lists processes node) (more : List (List ℕ)) (on : GoesOn lists more) (apart : AreApart more) (there : Node)
+      module _ (edge : Edge) (leads : edge_from rows node.place step ≡ Some edge) (is_node : IsNode lists processes node) (more : List (List ℕ)) (on : GoesOn lists more) (there : Node)
           (spot : spot_in more there ≡ spot_on (spot_in lists node) step edge) where
         abbrev now : Came
         now = record { from = place; by = step }
@@ -110,10 +110,10 @@ module _ (rows : List (List (Option Edge))) (processes : ℕ) where
                   (λ k also. new.0 (contains_at (spots_in more g.layer.keys) k (spot_in more there) also))))
             ]
 
-        pub one_tried : (after : Growing) → lists_in after.lists ≡ more → AreNodes more processes after.layer.keys →
+        pub one_tried : (after : Growing) → AreLists after.lists → lists_in after.lists ≡ more → AreNodes more processes after.layer.keys →
             IsArrived (spots_in more g.layer.keys) g.came.items (spots_in more after.layer.keys) after.came.items (spot_in more there) now → IsGrown rows processes layer place (step + 1) after
-        one_tried after same nodes arrived = record {
-          apart = subst (λ (l : List (List ℕ)). AreApart l) (sym same) apart;
+        one_tried after good same nodes arrived = record {
+          lists = good;
           before = subst (λ (l : List (List ℕ)). AreNodes l processes layer) (sym same) (nodes_kept lists more on processes layer h.before);
           nodes = subst (λ (l : List (List ℕ)). AreNodes l processes after.layer.keys) (sym same) nodes;
           growing = subst (λ (l : List (List ℕ)). IsGrowing (next_from rows) (spots_in l layer) place (step + 1) after.came.items (spots_in l after.layer.keys)) (sym same)
@@ -135,9 +135,9 @@ module _ (rows : List (List (Option Edge))) (processes : ℕ) where
         }
 
   -- nothing was gone on from
-  pub none_grown : (layer : List Node) (g : Growing) → AreApart (lists_in g.lists) → AreNodes (lists_in g.lists) processes layer → g.layer.keys ≡ [] → g.came.items ≡ [] → IsGrown rows processes layer 0 0 g
-  none_grown layer g apart before none no_came = record {
-    apart = apart;
+  pub none_grown : (layer : List Node) (g : Growing) → AreLists g.lists → AreNodes (lists_in g.lists) processes layer → g.layer.keys ≡ [] → g.came.items ≡ [] → IsGrown rows processes layer 0 0 g
+  none_grown layer g good before none no_came = record {
+    lists = good;
     before = before;
     nodes = subst (λ (l : List Node). AreNodes (lists_in g.lists) processes l) (sym none) (λ k d less. absurd (omega (arith, less)));
     growing = grows_first (next_from rows) (spots_in (lists_in g.lists) layer) g.came.items (spots_in (lists_in g.lists) g.layer.keys) no_came (ap (spots_in (lists_in g.lists)) none);

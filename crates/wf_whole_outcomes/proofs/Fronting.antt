@@ -7,10 +7,12 @@ use Rattle.std.specs.List.{slice_get}
 use Rattle.wf_history.proofs.Positions.{place_push}
 use Rattle.wf_whole_outcomes.specs.Graph.{Spot, AreApart, GoesOn, next_from, edge_from, spot_on, said_on}
 use Rattle.wf_whole_outcomes.specs.Layers.{GrowsOver, HasOver, HasSome, IsGrowing, IsLayer, IsLinked, ways_of}
-use Rattle.wf_whole_outcomes.specs.Nodes.{AreNodes, IsFirst, IsFront, IsGrown, IsNode, first_spot, lists_in, spot_in, spots_in, trail_in}
+use Rattle.wf_whole_outcomes.specs.Nodes.{AreLinked, AreLists, AreNodes, IsFirst, IsFront, IsGrown, IsNode, first_spot, lists_in, spot_in, spots_in, trail_in}
 use Rattle.wf_whole_outcomes.specs.declared.edges.Edge.{Edge}
 use Rattle.wf_whole_outcomes.specs.declared.growing.Came.{Came}
 use Rattle.wf_whole_outcomes.specs.declared.growing.Growing.{Growing}
+use Rattle.wf_whole_outcomes.specs.declared.nodes.Link.{Link}
+use Rattle.wf_whole_outcomes.specs.declared.nodes.Lists.{Lists}
 use Rattle.wf_whole_outcomes.specs.declared.nodes.Node.{Node}
 use Rattle.wf_whole_outcomes.specs.declared.search.Front.{Front}
 use Rattle.wf_whole_outcomes.proofs.Layering.{layer_behind, layer_first, some_first, ways_push, with_these}
@@ -125,7 +127,7 @@ module _ (rows : List (List (Option Edge))) (processes : ℕ) where
 
         pub front_on : IsFront rows processes next
         front_on = record {
-          apart = subst (λ (l : List (List ℕ)). AreApart l) (sym all_same) grown.apart;
+          lists = subst (λ (l : Lists). AreLists l) (sym lists) grown.lists;
           nodes = subst (λ (l : List (List ℕ)). AreNodes l processes next.layer.keys) (sym all_same) (subst (λ (n : List Node). AreNodes (lists_in g.lists) processes n) (sym keys_same) grown.nodes);
           layer = subst (λ (s : List Spot). IsLayer (next_from rows) (first_spot processes) (length next.trail.items) (ways_of ([] ∷ []) (trail_in next.trail.items)) s) (sym spots_same)
               (subst (λ (t : List (List Came)). IsLayer (next_from rows) (first_spot processes) (length next.trail.items) (ways_of ([] ∷ []) t) (spots_in (lists_in g.lists) g.layer.keys)) (sym trails)
@@ -146,8 +148,8 @@ module _ (rows : List (List (Option Edge))) (processes : ℕ) where
     }
 
   -- the front of which the parts are these
-  pub front_first : (f : Front) → lists_in f.lists ≡ [] ∷ [] → IsFirst processes f.layer.keys → f.trail.items ≡ [] → f.many ≡ 1 → IsFront rows processes f
-  front_first f lists first none one =
+  pub front_first : (f : Front) → lists_in f.lists ≡ [] ∷ [] → f.lists.links.keys ≡ [] → IsFirst processes f.layer.keys → f.trail.items ≡ [] → f.many ≡ 1 → IsFront rows processes f
+  front_first f lists links first none one =
       let node = first.0 in
       let told = first.3 in
       let is : IsNode (lists_in f.lists) processes node = record {
@@ -158,7 +160,7 @@ module _ (rows : List (List (Option Edge))) (processes : ℕ) where
       same_spot (spot_in (lists_in f.lists) node) (first_spot processes) first.2 (ap (λ (l : List (List ℕ)). map (λ (k : ℕ). get_or l k []) node.told.items) lists ∙ ap (map (λ (k : ℕ). get_or {A = List ℕ} ([] ∷ []) k [])) told ∙ all_empty processes) in
       let spots : spots_in (lists_in f.lists) f.layer.keys ≡ first_spot processes ∷ [] = ap (spots_in (lists_in f.lists)) first.1 ∙ ap (λ (s : Spot). s ∷ []) spot in
       record {
-        apart = subst (λ (l : List (List ℕ)). AreApart l) (sym lists) only_one;
+        lists = subst (λ (l : List (List ℕ)). AreLinked f.lists.links.keys l) (sym lists) (subst (λ (l : List Link). AreLinked l ([] ∷ [])) (sym links) only_linked);
         nodes = subst (λ (l : List Node). AreNodes (lists_in f.lists) processes l) (sym first.1) (All-cons (IsNode (lists_in f.lists) processes) node [] is (All-nil (IsNode (lists_in f.lists) processes)));
         layer = subst (λ (l : List Spot). IsLayer (next_from rows) (first_spot processes) (length f.trail.items) (ways_of ([] ∷ []) (trail_in f.trail.items)) l) (sym spots)
             (subst (λ (t : List (Vec Came _)). IsLayer (next_from rows) (first_spot processes) (length t) (ways_of ([] ∷ []) (trail_in t)) (first_spot processes ∷ [])) (sym none) (layer_first (next_from rows) (first_spot processes)));
@@ -175,3 +177,6 @@ module _ (rows : List (List (Option Edge))) (processes : ℕ) where
       only_one zero zero a at also = refl
       only_one zero (suc k) a at also = absurd (cc)
       only_one (suc j) k a at also = absurd (cc)
+
+      only_linked : AreLinked [] ([] ∷ [])
+      only_linked = record { size = refl; first = refl; each = λ k l at. absurd (cc); apart = only_one }

@@ -1,18 +1,32 @@
 -- What a search keeps of a spot.
-use Rattle.std.specs.Prelude.{◌≡◌, ◌⊎◌, ℕ, ◌+◌, ◌<◌, List, [], ◌∷◌, ◌++◌, length, map, get_or, replicate, Vec, All, Option, Contains}
-use Rattle.std.specs.HashSet.{HashSet}
-use Rattle.smallvec.specs.SmallVec.{SmallVec}
+use Rattle.std.specs.Prelude.{◌≡◌, ◌⊎◌, ℕ, ◌+◌, ◌<◌, List, [], ◌∷◌, ◌++◌, length, map, get_or, replicate, slice_get, Some, Vec, All, Option, Contains}
 use Rattle.wf_whole_outcomes.specs.Graph.{Spot, AreApart, next_from}
 use Rattle.wf_whole_outcomes.specs.Layers.{HasSome, IsGrowing, IsLayer, IsLinked, ways_of}
 use Rattle.wf_whole_outcomes.specs.declared.edges.Edge.{Edge}
 use Rattle.wf_whole_outcomes.specs.declared.growing.Came.{Came}
 use Rattle.wf_whole_outcomes.specs.declared.growing.Growing.{Growing}
+use Rattle.wf_whole_outcomes.specs.declared.nodes.Link.{Link}
+use Rattle.wf_whole_outcomes.specs.declared.nodes.Lists.{Lists}
 use Rattle.wf_whole_outcomes.specs.declared.nodes.Node.{Node}
 use Rattle.wf_whole_outcomes.specs.declared.search.Front.{Front}
 
 -- the lists that were found, by their numbers
-abbrev pub lists_in : {S : Type 0} → HashSet (SmallVec ℕ) S → List (List ℕ)
-lists_in lists = map (λ l. l.items) lists.keys
+abbrev pub lists_in : Lists → List (List ℕ)
+lists_in lists = map (λ l. l.items) lists.items.items
+
+-- the list that has a number, with one reply more
+abbrev pub list_with : List (List ℕ) → (list reply : ℕ) → List ℕ
+list_with lists list reply = get_or lists list [] ++ reply ∷ []
+
+-- The empty list comes first, and behind it of each link the list that it makes of one before it. None stands twice.
+pub record AreLinked (links : List Link) (lists : List (List ℕ)) : Type 0 where
+  pub size : length lists ≡ length links + 1
+  pub first : slice_get lists 0 ≡ Some []
+  pub each : (k : ℕ) (l : Link) → slice_get links k ≡ Some l → (l.list < k + 1) × (slice_get lists (k + 1) ≡ Some (list_with lists l.list l.reply))
+  pub apart : AreApart lists
+
+abbrev pub AreLists : Lists → Type 0
+AreLists lists = AreLinked lists.links.keys (lists_in lists)
 
 -- the node's place, and of each process the list that has the number
 abbrev pub spot_in : List (List ℕ) → Node → Spot
@@ -48,14 +62,14 @@ first_spot processes = record { place = 0; said = replicate processes [] }
 module _ (rows : List (List (Option Edge))) (processes : ℕ) where
   -- what one step leads to from a layer, as far as it was gone on from
   pub record IsGrown (layer : List Node) (place step : ℕ) (g : Growing) : Type 0 where
-    pub apart : AreApart (lists_in g.lists)
+    pub lists : AreLists g.lists
     pub before : AreNodes (lists_in g.lists) processes layer
     pub nodes : AreNodes (lists_in g.lists) processes g.layer.keys
     pub growing : IsGrowing (next_from rows) (spots_in (lists_in g.lists) layer) place step g.came.items (spots_in (lists_in g.lists) g.layer.keys)
 
   -- the last layer, with the ways that lead there, and how many spots there are in all
   pub record IsFront (f : Front) : Type 0 where
-    pub apart : AreApart (lists_in f.lists)
+    pub lists : AreLists f.lists
     pub nodes : AreNodes (lists_in f.lists) processes f.layer.keys
     pub layer : IsLayer (next_from rows) (first_spot processes) (length f.trail.items) (ways_of ([] ∷ []) (trail_in f.trail.items)) (spots_in (lists_in f.lists) f.layer.keys)
     pub linked : IsLinked (trail_in f.trail.items)

@@ -1,9 +1,9 @@
 //! One layer more.
 
-ghost use Rattle.std.specs.Prelude.{◌≡◌, ◌<◌, ◌+◌, ◌≤◌, length, OnOk, IfOk, IsErrOf};
+ghost use Rattle.std.specs.Prelude.{◌≡◌, ◌<◌, ◌+◌, ◌≤◌, [], length, OnOk, IfOk, IsErrOf};
 ghost use Rattle.wf_whole_outcomes.specs.Graph.{AreApart, GoesOn, IsNarrow, next_from, rows_in};
 ghost use Rattle.wf_whole_outcomes.specs.Layers.{GrowsOver};
-ghost use Rattle.wf_whole_outcomes.specs.Nodes.{AreNodes, IsArrived, IsGrown, IsNode, lists_in, spot_in, spots_in};
+ghost use Rattle.wf_whole_outcomes.specs.Nodes.{AreLists, AreNodes, IsArrived, IsGrown, IsNode, lists_in, spot_in, spots_in};
 
 use crate::edges::{Edge, known_edge};
 use crate::keys::Keys;
@@ -95,6 +95,17 @@ fn expand(
     Ok(())
 }
 
+/// Nothing is reached yet. There is room for as many nodes as the layer before has.
+fn nothing_reached(ground: &Ground<'_>, lists: Lists, room: usize) -> Result<Growing, NoMemory>
+    ensures lists { IfOk result (λ g. g.lists ≡ lists) }
+    ensures layer { IfOk result (λ g. g.layer.keys ≡ []) }
+    ensures came { IfOk result (λ g. g.came.items ≡ []) }
+{
+    let layer = Layer::with_capacity_and_hasher(ground.alloc, room, Keys::new(ground.keys))?;
+    let came = Vec::new(ground.alloc);
+    Ok(Growing { lists, layer, came })
+}
+
 /// The layer behind a layer, if it has no more nodes than there is room for.
 pub(crate) fn layer_behind(
     ground: &Ground<'_>,
@@ -103,18 +114,14 @@ pub(crate) fn layer_behind(
     room: usize,
 ) -> Result<Growing, LayersFault>
     requires narrow { IsNarrow (rows_in ground.now.rows.now) ground.now.processes }
-    requires apart { AreApart (lists_in lists) }
+    requires lists { AreLists lists }
     requires nodes { AreNodes (lists_in lists) ground.now.processes layer.now.keys }
     ensures grown { IfOk result (IsGrown (rows_in ground.now.rows.now) ground.now.processes layer.now.keys (length layer.now.keys) 0) }
     ensures more { IfOk result (λ g. GoesOn (lists_in lists) (lists_in g.lists)) }
     ensures few { IfOk result (λ g. length g.layer.keys ≤ room) }
     ensures most { IsErrOf result LayersFault.TooMany → GrowsOver (next_from (rows_in ground.now.rows.now)) (spots_in (lists_in lists) layer.now.keys) room }
 {
-    let mut growing = Growing {
-        lists,
-        layer: Layer::with_hasher(ground.alloc, Keys::new(ground.keys)),
-        came: Vec::new(ground.alloc),
-    };
+    let mut growing = nothing_reached(ground, lists, layer.len())?;
     for from in 0..layer.len() {
         expand(ground, &mut growing, layer, from)?;
         if growing.layer.len() > room {

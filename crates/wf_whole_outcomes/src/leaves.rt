@@ -94,7 +94,7 @@ fn all_replies(
 {
     let mut rows = Vec::with_capacity(alloc, told.len())?;
     for number in told {
-        rows.push(replies_of(alloc, replies, &lists[*number])?)?;
+        rows.push(replies_of(alloc, replies, &lists.items[*number])?)?;
     }
     Ok(rows)
 }

@@ -16,7 +16,7 @@ pub mod wholes;
 
 pub use edges::Edge;
 pub use growing::{Came, Ground};
-pub use nodes::{Layer, Lists, Node, Said, Told};
+pub use nodes::{Layer, Link, Lists, Node, Told};
 pub use search::{Front, LayersFault, search_all};
 pub use ways::way_back;
 pub use wholes::{ToldWhole, wholes_told};

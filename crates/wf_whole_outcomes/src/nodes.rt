@@ -1,8 +1,8 @@
 //! What a search keeps of where a way leads.
 
-ghost use Rattle.std.specs.Prelude.{◌≡◌, ◌<◌, ◌++◌, ◌∷◌, [], length, get_or, slice_get, slice_set, Some, IfOk, OnOk};
-ghost use Rattle.wf_whole_outcomes.specs.Graph.{AreApart, GoesOn, spot_on};
-ghost use Rattle.wf_whole_outcomes.specs.Nodes.{IsNode, lists_in, spot_in};
+ghost use Rattle.std.specs.Prelude.{◌≡◌, ◌<◌, ◌++◌, ◌∷◌, [], length, slice_get, slice_set, Some, IfOk, OnOk};
+ghost use Rattle.wf_whole_outcomes.specs.Graph.{GoesOn, spot_on};
+ghost use Rattle.wf_whole_outcomes.specs.Nodes.{AreLists, IsNode, list_with, lists_in, spot_in};
 
 use crate::edges::Edge;
 use crate::keys::Keys;
@@ -11,11 +11,20 @@ use ob_interface::NoMemory;
 use smallvec::SmallVec;
 use std::alloc::{AllocError, Global};
 
-/// The numbers of replies, in order. Of sixteen of them and less no memory is taken.
-pub type Said = SmallVec<usize, 16>;
+/// A list, by its number, and a reply behind it.
+#[derive(Clone, Copy, PartialEq, Eq, Hash)]
+pub struct Link {
+    pub list: usize,
+    pub reply: usize,
+}
 
-/// Lists of the numbers of replies, each once. What is kept of a list is its place here.
-pub type Lists = IndexSet<Said, Keys>;
+/// Lists of the numbers of replies, each once: first the empty one, and then of each link the list that it makes. What is kept of a list
+/// is its number, and to make one longer, no list is gone over: its link is looked up.
+#[derive(Drop)]
+pub struct Lists {
+    pub links: IndexSet<Link, Keys>,
+    pub items: Vec<Vec<usize>>,
+}
 
 /// Of each process the number of the list of its replies so far.
 pub type Told = SmallVec<usize, 4>;
@@ -31,10 +40,11 @@ pub struct Node {
 pub type Layer = IndexSet<Node, Keys>;
 
 /// A list with one reply more.
-fn with_reply(alloc: Global, list: &[usize], reply: usize) -> Result<Said, AllocError>
+fn with_reply(alloc: Global, list: &[usize], reply: usize) -> Result<Vec<usize>, AllocError>
     ensures { IfOk result (λ longer. longer.items ≡ list.now ++ reply ∷ []) }
 {
-    let mut longer = SmallVec::from_slice(alloc, list)?;
+    let mut longer = Vec::with_capacity(alloc, list.len() + 1)?;
+    longer.extend_from_slice(list)?;
     longer.push(reply)?;
     Ok(longer)
 }
@@ -42,14 +52,19 @@ fn with_reply(alloc: Global, list: &[usize], reply: usize) -> Result<Said, Alloc
 /// The number of the list with one reply more.
 fn longer(alloc: Global, lists: &mut Lists, list: usize, reply: usize) -> Result<usize, NoMemory>
     requires list { list < length (lists_in lists.old) }
-    requires apart { AreApart (lists_in lists.old) }
-    ensures there { IfOk result (λ number. slice_get (lists_in lists.new) number ≡ Some (get_or (lists_in lists.old) list [] ++ reply ∷ [])) }
-    ensures apart { OnOk result (AreApart (lists_in lists.new)) }
+    requires lists { AreLists lists.old }
+    ensures there { IfOk result (λ number. slice_get (lists_in lists.new) number ≡ Some (list_with (lists_in lists.old) list reply)) }
+    ensures lists { OnOk result (AreLists lists.new) }
     ensures more { OnOk result (GoesOn (lists_in lists.old) (lists_in lists.new)) }
 {
-    let items = with_reply(alloc, &lists[list], reply)?;
-    let (number, _) = lists.insert_full(items)?;
-    Ok(number)
+    let many = lists.items.len();
+    let (link, is_new) = lists.links.insert_full(Link { list, reply })?;
+    if !is_new {
+        return Ok(link + 1);
+    }
+    let items = with_reply(alloc, &lists.items[list], reply)?;
+    lists.items.push(items)?;
+    Ok(many)
 }
 
 /// Where the node's replies are with another list for a process.
@@ -73,10 +88,10 @@ pub(crate) fn node_on(
 ) -> Result<Node, NoMemory>
     requires process { process < length node.now.told.items }
     requires node { IsNode (lists_in lists.old) (length node.now.told.items) node.now }
-    requires apart { AreApart (lists_in lists.old) }
+    requires lists { AreLists lists.old }
     ensures spot { IfOk result (λ on. spot_in (lists_in lists.new) on ≡ spot_on (spot_in (lists_in lists.old) node.now) process edge) }
     ensures node { IfOk result (IsNode (lists_in lists.new) (length node.now.told.items)) }
-    ensures apart { OnOk result (AreApart (lists_in lists.new)) }
+    ensures lists { OnOk result (AreLists lists.new) }
     ensures more { OnOk result (GoesOn (lists_in lists.old) (lists_in lists.new)) }
 {
     let number = longer(alloc, lists, node.told[process], edge.reply)?;

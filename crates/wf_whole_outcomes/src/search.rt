@@ -8,6 +8,7 @@ ghost use Rattle.wf_whole_outcomes.specs.Nodes.{IsFirst, IsFront, first_spot, li
 use crate::growing::{Came, Ground, Growing, layer_behind};
 use crate::keys::Keys;
 use crate::nodes::{Layer, Lists, Node};
+use indexmap::IndexSet;
 use ob_interface::NoMemory;
 use smallvec::SmallVec;
 use std::alloc::Global;
@@ -47,12 +48,13 @@ pub struct Front {
 
 /// The one list with nothing in it.
 fn no_lists(ground: &Ground<'_>) -> Result<Lists, NoMemory>
-    ensures { IfOk result (λ lists. lists_in lists ≡ [] ∷ []) }
+    ensures lists { IfOk result (λ lists. lists_in lists ≡ [] ∷ []) }
+    ensures links { IfOk result (λ lists. lists.links.keys ≡ []) }
 {
-    let mut lists = Lists::with_hasher(ground.alloc, Keys::new(ground.keys));
-    let nothing = SmallVec::new(ground.alloc);
-    let _is_new = lists.insert(nothing)?;
-    Ok(lists)
+    let links = IndexSet::with_hasher(ground.alloc, Keys::new(ground.keys));
+    let mut items = Vec::new(ground.alloc);
+    items.push(Vec::new(ground.alloc))?;
+    Ok(Lists { links, items })
 }
 
 /// The one node at which nothing is said.

@@ -4,7 +4,8 @@ use Rattle.std.specs.List.{slice_get}
 use Rattle.std.proofs.lemmas.List.Elements.{All-contains}
 use Rattle.wf_history.proofs.Positions.{contains_at}
 use Rattle.wf_whole_outcomes.specs.Graph.{GoesOn, rows_in}
-use Rattle.wf_whole_outcomes.specs.Nodes.{AreNodes, IsNode, lists_in}
+use Rattle.wf_whole_outcomes.specs.Nodes.{AreLists, AreNodes, IsNode, lists_in}
+use Rattle.wf_whole_outcomes.specs.declared.nodes.Lists.{Lists}
 use Rattle.wf_whole_outcomes.specs.declared.nodes.Node.{Node}
 use Rattle.wf_whole_outcomes.proofs.Advancing.{goes_nowhere, none_tried, one_tried}
 use Rattle.wf_whole_outcomes.proofs.Noding.{nodes_kept}
@@ -25,6 +26,9 @@ pub node_on-requires-clause-node : goal.node_on-requires-clause-node
 node_on-requires-clause-node c =
     let is = one_of (lists_in c.args.growing.now.lists) c.args.ground.now.processes c.args.layer.now.keys c.args.came.from c.index-node.result.now c.index-node.ensures c.requires.grown.before in
     record { size = refl; within = is.within }
+
+pub arrive-requires-clause-apart : goal.arrive-requires-clause-apart
+arrive-requires-clause-apart c = c.in_ok-there.ensures.lists.apart
 
 pub arrive-requires-clause-nodes : goal.arrive-requires-clause-nodes
 arrive-requires-clause-nodes c =
@@ -55,7 +59,8 @@ returns-clause-grown c =
     let more = lists_in c.node_on.new.lists in
     let there = c.in_ok-there.there in
     one_tried (rows_in c.args.ground.now.rows.now) processes c.args.layer.now.keys c.args.came.from c.args.came.by g c.requires.grown node c.index-node.ensures c.in-Some.edge (sym c.known_edge.ensures ∙ c.in-Some.is) is more
-    c.in_ok-there.ensures.more c.in_ok-there.ensures.apart there c.in_ok-there.ensures.spot c.arrive.new.growing (ap lists_in c.in_ok-arrive.ensures.lists)
+    c.in_ok-there.ensures.more there c.in_ok-there.ensures.spot c.arrive.new.growing
+    (subst (λ (l : Lists). AreLists l) (sym c.in_ok-arrive.ensures.lists) c.in_ok-there.ensures.lists) (ap lists_in c.in_ok-arrive.ensures.lists)
     (subst (λ (n : ℕ). AreNodes more n c.arrive.new.growing.layer.keys) (c.in_ok-there.ensures.node.size ∙ is.size) c.in_ok-arrive.ensures.nodes) c.in_ok-arrive.ensures.arrived
 
 pub returns-clause-more : goal.returns-clause-more
