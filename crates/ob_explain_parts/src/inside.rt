@@ -1,7 +1,7 @@
 //! Of which type an expression in parentheses is, by the operators in it.
 
 ghost use Rattle.std.specs.Prelude.{◌≡◌, ◌<◌, ◌≤◌, ◌+◌, ◌^◌};
-ghost use Rattle.ob_explain_parts.specs.Inside.{closes_there, gives_truth, has_truth, open_behind, takes_truths};
+ghost use Rattle.ob_explain_parts.specs.Inside.{gives_truth, has_truth, open_behind, takes_truths};
 
 use ob_explain_names::kinds::{is_left, is_relation, is_right};
 use ob_scan::{Kind, Token};
@@ -9,11 +9,11 @@ use ob_scan::{Kind, Token};
 /// Whether an operator that gives a BOOLEAN stands in parentheses, of the tokens behind the `(`.
 #[tactic(auto, using(crate::proofs::InsideSteps::ends_there, crate::proofs::InsideSteps::is_there, crate::proofs::InsideSteps::goes_on, crate::proofs::InsideSteps::none_left))]
 pub(crate) fn has_truth(inside: &[Token]) -> bool
-    ensures { result ≡ has_truth 0 inside.now }
+    ensures { result ≡ has_truth inside.now }
 {
     let mut parens = 0;
     for token in inside {
-        if closes_there(parens, token.kind) {
+        if is_right(token.kind) && parens == 0 {
             return false;
         }
         if gives_truth(token.kind) {
@@ -22,13 +22,6 @@ pub(crate) fn has_truth(inside: &[Token]) -> bool
         parens = open_behind(parens, token.kind);
     }
     false
-}
-
-/// Whether a token is the `)` of the parentheses themselves, where so many others are open in them.
-fn closes_there(parens: usize, kind: Kind) -> bool
-    ensures { result ≡ closes_there parens kind }
-{
-    is_right(kind) && parens == 0
 }
 
 /// The parentheses that are parens behind a token.

@@ -133,21 +133,25 @@ just before it`.
 A word of another language, as FOR, is a name, and so is a misspelt keyword.
 Where a name may stand, as at the beginning of a statement, what is told is the
 word behind it. So `explain` names the word before too, where it is a word of
-another language or a misspelt keyword, and where two names stand side by side
-and no operator could stand between them: `` expected .. behind the name `FOR`
-``.
+another language or a misspelt keyword and the text declares no such name, and
+where two names stand side by side and no operator could stand between them: ``
+expected .. behind the name `FOR` ``.
 
-Where it knows none of the slips below, it asks whether a `;` is missing, or
-THEN, DO, a `]` or a `)` where one of these could stand: exactly where the
-token could stand there behind it, by the grammar. Of a `,` it asks so too,
-between names that are declared and between the actuals of a call that is
-closed behind them.
+Where it knows none of the slips below, it asks whether a `(` is missing, which
+a `)` behind it closes; whether END is, where the name there is the one of what
+ends; or an operator, at a number or at a name in the same line that begins no
+assignment and no call.
+
+Else it asks whether a `;` is missing, or THEN, DO, a `]` or a `)` where one of
+these could stand: exactly where the token could stand there behind it, by the
+grammar. Of a `,` it asks so too, between names that are declared and between
+the actuals of a call that is closed behind them.
 
 It asks first whether a keyword is meant. It looks at the token there, and else
 at the one just before it: where that is a name which the text has nowhere
-before, and no word of another language, and one or two edits, as at C1, lead
-to a keyword with which, in its place, the text goes on with the token behind
-it. Of several such keywords it asks for the nearest.
+before and declares nowhere, and no word of another language, and one or two
+edits, as at C1, lead to a keyword with which, in its place, the text goes on
+with the token behind it. Of several such keywords it asks for the nearest.
 
 A missing END is often told far below. So `explain` tells of a construct that
 is open there the line in which it begins. Open at a place is each MODULE,
