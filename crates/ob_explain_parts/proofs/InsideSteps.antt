@@ -1,5 +1,5 @@
 -- The tokens in parentheses one by one.
-use Rattle.std.proofs.Common.{◌≡◌, ℕ, ◌+◌, ◌<◌, ◌≤◌, ◌&&◌, ◌==◌, Bool, true, false, cond, List, [], ◌∷◌, length, get_or, drop, refl, sym, ◌∙◌, ap, add-one, drop-cons, drop_of_length-le}
+use Rattle.std.proofs.Common.{◌≡◌, ℕ, ◌+◌, ◌<◌, ◌≤◌, ◌&&◌, ◌||◌, ◌==◌, Bool, true, false, cond, List, [], ◌∷◌, length, get_or, drop, refl, sym, ◌∙◌, ap, add-one, drop-cons, drop_of_length-le}
 use Rattle.std.specs.List.{list_any}
 use Rattle.ob_scan.specs.declared.token.Kind.{Kind}
 use Rattle.ob_scan.specs.declared.token.Token.{Token}
@@ -25,12 +25,18 @@ step opened ts i d lt =
 
 any_step : (opened : ℕ) (ts : List Token) (i : ℕ) (d : Token) → i < length ts → closes_there opened (get_or ts i d).kind ≡ false →
     truth_from opened (drop i ts)
-    ≡ cond (gives_truth (get_or ts i d).kind) true (truth_from (open_behind opened (get_or ts i d).kind) (drop (i + 1) ts))
-any_step opened ts i d lt on = ap (list_any (λ t. gives_truth t.kind)) (step opened ts i d lt ∙ rw on refl)
+    ≡ (gives_truth (get_or ts i d).kind || truth_from (open_behind opened (get_or ts i d).kind) (drop (i + 1) ts))
+any_step opened ts i d lt on =
+    let first : Token = get_or ts i d in
+    let more : List Token = within (open_behind opened first.kind) (drop (i + 1) ts) in
+    let here : within opened (drop i ts) ≡ first ∷ more = step opened ts i d lt ∙ rw on refl in
+    ap (λ inside. list_any (λ t. gives_truth t.kind) inside) here
 
 pub ends_there : (opened : ℕ) (ts : List Token) (i : ℕ) (d : Token) → i < length ts →
     closes_there opened (get_or ts i d).kind ≡ true → truth_from opened (drop i ts) ≡ false
-ends_there opened ts i d lt is = ap (list_any (λ t. gives_truth t.kind)) (step opened ts i d lt ∙ rw is refl)
+ends_there opened ts i d lt is =
+    let here : within opened (drop i ts) ≡ [] = step opened ts i d lt ∙ rw is refl in
+    ap (λ inside. list_any (λ t. gives_truth t.kind) inside) here
 
 pub is_there : (opened : ℕ) (ts : List Token) (i : ℕ) (d : Token) → i < length ts →
     closes_there opened (get_or ts i d).kind ≡ false → gives_truth (get_or ts i d).kind ≡ true → truth_from opened (drop i ts) ≡ true

@@ -239,7 +239,8 @@ constant that is declared as one, behind a minus or not.
     a divisor is 1 or more, and this one is not, so there is no constant
   MODULE M; VAR n: INTEGER; PROCEDURE P; VAR a: ARRAY n OF INTEGER; END P; END M.
     C5 at 52
-    a constant has no variables in it
+    the length of an array is a constant, as n of CONST n = 4, and has no
+      variables in it
 
 All commands tell C1 to C10, the first in the text.
 

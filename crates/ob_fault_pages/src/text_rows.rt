@@ -45,7 +45,7 @@ digits, blanks and the symbols of the language`.
 
   MODULE M; // text
     S1 at 10
-    hint: a comment is written (* .. *)
+    hint: a comment is written (* .. *), and a quotient with DIV
 
   MODULE M; VAR x: INTEGER; BEGIN x := 6 / 2 END M.
     S1 at 39
@@ -131,11 +131,13 @@ stand, it says `the module can't go on like this; look here, and at what stands
 just before it`.
 
 A word of another language, as FOR, is a name, and so is a misspelt keyword.
-Where a name may stand, as at the beginning of a statement, what is told is the
-word behind it. So `explain` names the word before too, where it is a word of
-another language or a misspelt keyword and the text declares no such name, and
-where two names stand side by side and no operator could stand between them: ``
-expected .. behind the name `FOR` ``.
+Where a name may stand, as where a statement begins, what is told is the word
+behind it.
+
+So `explain` names the word before too, where the text doesn't declare it and
+it is a word of another language or a misspelt keyword; and where two names
+stand side by side and no operator could stand between them: `` expected ..
+behind the name `FOR` ``.
 
 Where it knows none of the slips below, it asks whether a `(` is missing, which
 a `)` behind it closes; whether END is, where the name there is the one of what

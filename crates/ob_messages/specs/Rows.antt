@@ -1,5 +1,5 @@
 -- Which row of a table is given at a place.
-use Rattle.std.specs.Prelude.{ℕ, ◌&&◌, ◌||◌, Bool, true, false, not, List, map, find, nat_eq, Option, Some, None, option_map}
+use Rattle.std.specs.Prelude.{ℕ, ◌||◌, Bool, false, not, List, map, find, nat_eq, Option, Some, None, option_map}
 use Rattle.std.specs.List.{list_all, list_any, starts_with}
 use denote.Bor.{Bor}
 use denote.Enum.Bare.{sameb}
