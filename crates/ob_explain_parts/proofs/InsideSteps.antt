@@ -1,14 +1,8 @@
 -- The tokens in parentheses one by one.
-use Rattle.std.proofs.Common.{◌≡◌, ℕ, ◌+◌, ◌<◌, ◌≤◌, ◌&&◌, ◌||◌, ◌==◌, Bool, true, false, cond, List, [], ◌∷◌, length, get_or, drop, refl, sym, ◌∙◌, ap, add-one, drop-cons, drop_of_length-le}
+use Rattle.std.proofs.Common.{◌≡◌, ℕ, ◌+◌, ◌<◌, ◌≤◌, ◌||◌, Bool, true, false, cond, List, [], ◌∷◌, length, get_or, drop, refl, sym, ◌∙◌, ap, add-one, drop-cons, drop_of_length-le}
 use Rattle.std.specs.List.{list_any}
-use Rattle.ob_scan.specs.declared.token.Kind.{Kind}
 use Rattle.ob_scan.specs.declared.token.Token.{Token}
-use Rattle.ob_explain_names.specs.Kinds.{is_right}
-use Rattle.ob_explain_parts.specs.Inside.{gives_truth, open_behind, within}
-
--- the `)` of the parentheses themselves
-abbrev pub closes_there : (opened : ℕ) → Kind → Bool
-closes_there opened kind = is_right kind && (opened == 0)
+use Rattle.ob_explain_parts.specs.Inside.{closes_there, gives_truth, open_behind, within}
 
 -- an operator that gives a BOOLEAN stands in the parentheses, where so many others are open
 abbrev pub truth_from : (opened : ℕ) → List Token → Bool

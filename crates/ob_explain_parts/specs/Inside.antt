@@ -21,10 +21,14 @@ gives_truth kind = is_relation kind || takes_truths kind
 abbrev pub open_behind : (opened : ℕ) → Kind → ℕ
 open_behind opened kind = if is_left kind then opened + 1 else if is_right kind then opened - 1 else opened
 
+-- a `)` that closes more than was opened
+abbrev pub closes_there : (opened : ℕ) → Kind → Bool
+closes_there opened kind = is_right kind && (opened == 0)
+
 -- what stands in parentheses, of the tokens behind their `(`: all before the first `)` that closes more than was opened
 unfoldable pub within : (opened : ℕ) → (behind : List Token) → List Token
 within opened [] = []
-within opened (t ∷ rest) = if is_right t.kind && (opened == 0) then [] else t ∷ within (open_behind opened t.kind) rest
+within opened (t ∷ rest) = if closes_there opened t.kind then [] else t ∷ within (open_behind opened t.kind) rest
 
 -- An operator that gives a BOOLEAN stands in parentheses, of the tokens behind the `(`. No INTEGER has one in it: `(a + v[i])` has
 -- none, `(a = v[i])` has one.

@@ -1,7 +1,7 @@
 //! Of which type an expression in parentheses is, by the operators in it.
 
 ghost use Rattle.std.specs.Prelude.{◌≡◌, ◌<◌, ◌≤◌, ◌+◌, ◌^◌};
-ghost use Rattle.ob_explain_parts.specs.Inside.{gives_truth, has_truth, open_behind, takes_truths};
+ghost use Rattle.ob_explain_parts.specs.Inside.{closes_there, gives_truth, has_truth, open_behind, takes_truths};
 
 use ob_explain_names::kinds::{is_left, is_relation, is_right};
 use ob_scan::{Kind, Token};
@@ -13,7 +13,7 @@ pub(crate) fn has_truth(inside: &[Token]) -> bool
 {
     let mut parens = 0;
     for token in inside {
-        if is_right(token.kind) && parens == 0 {
+        if closes_there(parens, token.kind) {
             return false;
         }
         if gives_truth(token.kind) {
@@ -24,7 +24,14 @@ pub(crate) fn has_truth(inside: &[Token]) -> bool
     false
 }
 
-/// The parentheses that are parens behind a token.
+/// Whether a token is the `)` of the parentheses themselves, where so many others are open in them.
+fn closes_there(parens: usize, kind: Kind) -> bool
+    ensures { result ≡ closes_there parens kind }
+{
+    is_right(kind) && parens == 0
+}
+
+/// The parentheses that are open behind a token.
 fn open_behind(parens: usize, kind: Kind) -> usize
     requires { parens < 2 ^ 63 }
     ensures count { result ≡ open_behind parens kind }
