@@ -27,7 +27,7 @@ EXPLAINED = re.compile(r"shown in (\w+) at (\d+): (.*)")
 TRAPPED = re.compile(r"(call \d+\.\d+, line \d+ of \w+: trap \d), shown in (\w+) at (\d+): (.*)")
 # that an opening traps, at a place of a file
 OPENED = re.compile(r"(O2 trap \d), shown in (\w+) at (\d+): (.*)")
-WORD = re.compile(rb"[A-Za-z][A-Za-z0-9]*")
+WORD = re.compile(rb"[A-Za-z][A-Za-z0-9_]*")
 NO_MEMORY = b"NoMemory\n"
 
 

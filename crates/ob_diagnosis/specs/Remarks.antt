@@ -1,5 +1,5 @@
 -- What each fault of a module says to people.
-use Rattle.std.specs.Prelude.{◌≡◌, ℕ, List, drop, Option, Some, None}
+use Rattle.std.specs.Prelude.{◌≡◌, ◌⊎◌, ℕ, false, List, [], drop, Option, Some, None}
 use Rattle.ob_scan.specs.declared.fault.ScanFault.{ScanFault}
 use Rattle.ob_scan.specs.declared.fault.ScanFault.TheVariants as Scan
 use Rattle.ob_scan.specs.Limits.{longest_text}
@@ -11,6 +11,7 @@ use Rattle.ob_typing.specs.declared.rule.Rule.{Rule}
 use Rattle.ob_typing.specs.declared.rule.Rule.TheVariants as Rules
 use Rattle.ob_evidence.specs.Evidence.{IsTrueOf}
 use Rattle.ob_evidence.specs.Sites.{IsScene, Scene, here, kind_of, last, next, second}
+use Rattle.ob_explain_names.specs.Declaring.{declares}
 use Rattle.ob_messages.specs.Places.{shown_place}
 use Rattle.ob_messages.specs.Remarks.{Remark}
 use Rattle.ob_messages.specs.Said.{Evidence, hint_text, sentence_text}
@@ -23,7 +24,12 @@ abbrev pub shown_at : Number → (text : List ℕ) → (place : ℕ) → ℕ
 shown_at Numbers.P1 text place = shown_place text place
 shown_at other text place = place
 
--- what may be seen at a place: the tokens around it, its bytes, and what could stand there
+-- a word is no name that the text declares
+abbrev pub IsUndeclared : Scene → (word : List ℕ) → Type 0
+IsUndeclared s word = (word ≡ []) ⊎ (declares s.text s.tokens word ≡ false)
+
+-- What may be seen at a place: the tokens around it, its bytes, and what could stand there. The words that are looked for among those of
+-- other languages and among keywords in small letters are no names that the text declares.
 pub record Sees (s : Scene) (view : View) (evidence : Evidence) : Type 0 where
   pub here : view.here ≡ kind_of (here s)
   pub last : view.last ≡ kind_of (last s)
@@ -31,6 +37,9 @@ pub record Sees (s : Scene) (view : View) (evidence : Evidence) : Type 0 where
   pub next : view.next ≡ kind_of (next s)
   pub from : view.from.now ≡ drop s.place s.text
   pub could : view.could.now ≡ evidence.could
+  pub word : IsUndeclared s view.word.now
+  pub word_before : IsUndeclared s view.word_before.now
+  pub called : IsUndeclared s view.called.now
 
 -- A remark on a fault of this number: its place is shown; its sentence and its hint, if there is one, are rows of the tables for this
 -- number, which hold of what may be seen there, filled with what is known of the fault and true.

@@ -1,5 +1,6 @@
 //! Names of procedures and of what is declared, by the tokens of a text alone.
 
+use ob_evidence::names::leads_to_statement;
 use ob_evidence::site::{Site, is_kind};
 use ob_explain_names::actuals::ends_call;
 use ob_explain_names::declarations::in_record;
@@ -7,7 +8,7 @@ use ob_explain_names::open::open_construct;
 use ob_scan::{Kind, Token};
 
 /// Whether a procedure of this name is declared among these tokens.
-pub(crate) fn declares(site: &Site<'_, '_>, tokens: &[Token], word: &[u8]) -> bool {
+pub(crate) fn is_procedure(site: &Site<'_, '_>, tokens: &[Token], word: &[u8]) -> bool {
     let mut is_behind = false;
     for token in tokens {
         if is_behind && site.word_of(Some(*token)) == word {
@@ -48,12 +49,18 @@ pub(crate) fn lists(site: &Site<'_, '_>, word: &[u8]) -> bool {
     false
 }
 
-/// Whether a `:=` stands behind the place before the end of the statement.
+/// Whether a `:=` stands behind the place before the end of the statement or of its condition.
 pub(crate) fn is_assigned(site: &Site<'_, '_>) -> bool {
-    let place = site.place;
-    let end = site.tokens.iter().copied().find(|token| place < token.start
-        && (token.kind == Kind::Assign || ends_call(token.kind)));
+    let end = site
+        .behind
+        .iter()
+        .copied()
+        .find(|token| ends_statement(token.kind));
     is_kind(end, Kind::Assign)
+}
+
+fn ends_statement(kind: Kind) -> bool {
+    ends_call(kind) || matches!(kind, Kind::Assign | Kind::Then | Kind::Do)
 }
 
 /// The name of the call that may end behind the place, or in whose parentheses it stands, where tokens of these kinds could stand.
@@ -62,27 +69,36 @@ pub(crate) fn called(site: &Site<'_, '_>, could: &[Kind]) -> Option<Token> {
     let ends = (could.contains(&Kind::Assign) && could.contains(&Kind::LeftParen))
         || (is_kind(site.last(), Kind::RightParen) && ends_statement && !could.contains(&Kind::And))
         || (could.contains(&Kind::RightParen) && could.contains(&Kind::Comma));
+    if ends { first_of_statement(site) } else { None }
+}
+
+/// The first token of the statement in which the place stands.
+fn first_of_statement(site: &Site<'_, '_>) -> Option<Token> {
     let leader = site
         .before
         .iter()
         .copied()
         .find(|token| leads_to_statement(token.kind));
     match leader {
-        Some(leader) if ends => next_behind(site.tokens, leader.start),
-        _ => None,
+        Some(leader) => next_behind(site.tokens, leader.start),
+        None => None,
+    }
+}
+
+/// Whether the statement in which the place stands begins with the name of a procedure and a `[`.
+pub(crate) fn begins_with_bracket(site: &Site<'_, '_>) -> bool {
+    match first_of_statement(site) {
+        Some(name) => {
+            is_kind(next_behind(site.tokens, name.start), Kind::LeftBracket)
+                && is_procedure(site, site.tokens, site.word_of(Some(name)))
+        }
+        None => false,
     }
 }
 
 /// The first token behind a place.
-fn next_behind(tokens: &[Token], place: usize) -> Option<Token> {
+pub(crate) fn next_behind(tokens: &[Token], place: usize) -> Option<Token> {
     tokens.iter().copied().find(|token| place < token.start)
-}
-
-fn leads_to_statement(kind: Kind) -> bool {
-    matches!(
-        kind,
-        Kind::Semicolon | Kind::Begin | Kind::Then | Kind::Else | Kind::Do | Kind::Repeat
-    )
 }
 
 /// Whether the token there is to end a REPEAT, where tokens of these kinds could stand: a WHILE without a DO in place of UNTIL, or the

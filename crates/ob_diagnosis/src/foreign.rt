@@ -1,11 +1,7 @@
-//! What words are: of another language, keywords but for small letters, types.
+//! What words are: of another language, or keywords but for small letters; types.
 
-use crate::keywords::is_keyword;
-use ob_messages::kinds::{KINDS, sample};
 use ob_messages::matcher::{View, word_hint};
 use ob_messages::table::Number;
-use ob_scan::Kind;
-
 /// Types of numbers of other languages, behind which their bits may stand.
 const NUMBER_TYPES: [&str; 5] = ["INT", "UINT", "LONGINT", "SHORTINT", "CARDINAL"];
 
@@ -14,7 +10,7 @@ const TYPES: [&str; 10] = [
     "INTEGER", "BOOLEAN", "INC", "DEC", "BOOL", "INT", "REAL", "CHAR", "STRING", "NEW",
 ];
 
-/// Whether the tables have a hint on this word.
+/// Whether the tables have a hint on this word: it is one of another language, or a keyword but for small letters.
 pub(crate) fn is_foreign(word: &[u8]) -> bool {
     word_hint(&View {
         number: Number::C1,
@@ -30,16 +26,6 @@ pub(crate) fn is_foreign(word: &[u8]) -> bool {
         facts: &[],
     })
     .is_some()
-}
-
-/// Whether a word is a keyword but for small letters.
-pub(crate) fn is_small_keyword(word: &[u8]) -> bool {
-    KINDS.iter().any(|kind| is_small(word, *kind))
-}
-
-fn is_small(word: &[u8], kind: Kind) -> bool {
-    let keyword = sample(kind).as_bytes();
-    is_keyword(kind) && word.eq_ignore_ascii_case(keyword) && word != keyword
 }
 
 /// Whether a word is a type of numbers that other languages have.

@@ -114,6 +114,21 @@ pub(crate) fn declares_type(site: &Site<'_, '_>, word: &[u8]) -> bool {
     false
 }
 
+/// Whether a word is the name of the type in whose declaration the place stands.
+pub(crate) fn is_own_type(site: &Site<'_, '_>, word: &[u8]) -> bool {
+    let mut is_type = false;
+    for token in site.before {
+        if is_type && !word.is_empty() && site.word_of(Some(*token)) == word {
+            return true;
+        }
+        if !is_in_types(true, token.kind) || token.kind == Kind::Type {
+            return false;
+        }
+        is_type = token.kind == Kind::Equal;
+    }
+    false
+}
+
 /// Whether declarations of types stand behind a token.
 fn is_in_types(in_types: bool, kind: Kind) -> bool {
     match kind {

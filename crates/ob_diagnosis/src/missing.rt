@@ -1,10 +1,14 @@
 //! Which token may be missing before a place.
 
+use crate::calls::{is_assigned, is_procedure, next_behind};
+use crate::further::is_closed_behind;
 use ob_evidence::expected::is_expected;
-use ob_evidence::site::Site;
+use ob_evidence::site::{Site, is_kind};
+use ob_explain_names::open::{is_unit, open_construct};
 use ob_messages::kinds::sample;
+use ob_messages::place::halves;
 use ob_messages::table::Fact;
-use ob_scan::Kind;
+use ob_scan::{Kind, Token};
 use std::alloc::{AllocError, Global};
 
 /// The token that is missing before the one there, which could stand there behind it, where tokens of these kinds could.
@@ -16,6 +20,79 @@ pub(crate) fn missing_there(
     let Some(here) = site.here() else {
         return Ok(None);
     };
+    if could.contains(&Kind::LeftParen)
+        && is_closed_behind(site)
+        && goes_on_behind(alloc, site, Kind::LeftParen, here.kind)?
+    {
+        Ok(Some(Fact::NoLeftParen))
+    } else if could.contains(&Kind::End) && ends_there(site) {
+        Ok(Some(Fact::NoEnd))
+    } else if could.contains(&Kind::And)
+        && !could.contains(&Kind::Comma)
+        && begins_operand(site, here)
+    {
+        Ok(Some(Fact::NoOperator))
+    } else {
+        missing_mark(alloc, site, here, could)
+    }
+}
+
+/// Whether the name there is that of the procedure or module that is open there, and no END with this name comes next.
+fn ends_there(site: &Site<'_, '_>) -> bool {
+    let Some(opening) = open_construct(site.before) else {
+        return false;
+    };
+    let word = site.word();
+    !word.is_empty()
+        && is_unit(opening.kind)
+        && site.word_of(next_behind(site.tokens, opening.start)) == word
+        && (is_kind(site.next(), Kind::Semicolon) || is_kind(site.next(), Kind::Dot))
+        && next_ended(site) != word
+}
+
+/// The name behind the next END behind the place.
+fn next_ended<'t>(site: &Site<'t, '_>) -> &'t [u8] {
+    let end = site
+        .behind
+        .iter()
+        .copied()
+        .find(|token| token.kind == Kind::End);
+    match end {
+        Some(end) => site.word_of(next_behind(site.tokens, end.start)),
+        None => b"",
+    }
+}
+
+/// Whether the token there is an operand and begins no statement.
+fn begins_operand(site: &Site<'_, '_>, here: Token) -> bool {
+    match here.kind {
+        Kind::Number | Kind::Not => true,
+        Kind::Ident => {
+            !is_first_in_line(site)
+                && !is_procedure(site, site.tokens, site.word())
+                && !is_kind(site.next(), Kind::LeftParen)
+                && !is_assigned(site)
+        }
+        _ => false,
+    }
+}
+
+/// Whether a line feed stands between the token before the place and the one there.
+fn is_first_in_line(site: &Site<'_, '_>) -> bool {
+    let (before, _) = halves(site.text, site.place);
+    match site.last() {
+        Some(last) => halves(before, last.end).1.contains(&b'\n'),
+        None => true,
+    }
+}
+
+/// Which of the tokens that stand between others is missing before the one there.
+fn missing_mark(
+    alloc: Global,
+    site: &Site<'_, '_>,
+    here: Token,
+    could: &[Kind],
+) -> Result<Option<Fact>, AllocError> {
     let (kind, fact) = awaited(could);
     if goes_on_behind(alloc, site, kind, here.kind)? {
         Ok(Some(fact))

@@ -5,9 +5,9 @@ ghost use Rattle.ob_diagnosis.specs.Remarks.{Tells};
 ghost use Rattle.ob_evidence.specs.Sites.{scene_of};
 ghost use Rattle.ob_messages.specs.Remarks.{remark_of};
 
-use crate::calls::{declares, is_field};
-use crate::foreign::{is_number_type, is_small_keyword};
-use crate::further::{declares_other, is_elsewhere};
+use crate::calls::{is_field, is_procedure};
+use crate::foreign::is_number_type;
+use crate::further::{declares_other, is_elsewhere, is_own_type};
 use crate::table_rows::{Seen, nothing, of_facts, told};
 use ob_evidence::facts::facts_of;
 use ob_evidence::names::{
@@ -42,7 +42,7 @@ pub(crate) fn unknown_remark(alloc: Global, site: &Site<'_, '_>) -> Result<Remar
             (is_field(site, word), Fact::Field),
             (is_elsewhere(site, word), Fact::Elsewhere),
             (is_number_type(word), Fact::NumberType),
-            (is_small_keyword(word), Fact::SmallKeyword),
+            (is_own_type(site, word), Fact::OwnType),
         ],
     )?;
     let seen = Seen {
@@ -58,7 +58,7 @@ pub(crate) fn unknown_remark(alloc: Global, site: &Site<'_, '_>) -> Result<Remar
 
 /// Whether a constant, a type or a procedure of this name is declared behind the place.
 fn is_further_down(site: &Site<'_, '_>, word: &[u8]) -> bool {
-    declares(site, site.behind, word) || declares_other(site, site.behind, word)
+    is_procedure(site, site.behind, word) || declares_other(site, site.behind, word)
 }
 
 /// The word at the place; empty behind a `.`, where it is the name of a field.

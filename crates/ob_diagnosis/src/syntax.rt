@@ -16,7 +16,7 @@ use ob_evidence::site::{Site, is_kind, is_token, kind_or_name, line_of};
 use ob_messages::remark::Remark;
 use ob_messages::said::Evidence;
 use ob_messages::table::{Fact, Number};
-use ob_scan::Kind;
+use ob_scan::{Kind, Token};
 use std::alloc::{AllocError, Global};
 
 /// The remark on a token that can't stand at a place, or on the end there.
@@ -38,8 +38,8 @@ fn expected_remark(alloc: Global, site: &Site<'_, '_>, could: &[Kind]) -> Result
     let before = site.word_of(last);
     let seen = Seen {
         facts: &facts,
-        word: site.word(),
-        word_before: before,
+        word: name_of(site, site.here()),
+        word_before: name_of(site, last),
         called: site.word_of(found.called),
     };
     let opening = opening_of(found.shown);
@@ -53,6 +53,15 @@ fn expected_remark(alloc: Global, site: &Site<'_, '_>, could: &[Kind]) -> Result
         ..nothing()
     };
     told(alloc, site, Number::P1, &seen, &evidence)
+}
+
+/// The name that a token is; none of a keyword.
+fn name_of<'t>(site: &Site<'t, '_>, token: Option<Token>) -> &'t [u8] {
+    if is_kind(token, Kind::Ident) {
+        site.word_of(token)
+    } else {
+        b""
+    }
 }
 
 /// The remark on a name behind END that is another than that of what ends.

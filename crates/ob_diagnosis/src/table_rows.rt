@@ -1,7 +1,7 @@
 //! What the tables say of what may be seen at a place.
 
 ghost use Rattle.std.specs.Prelude.{◌≡◌, IfOk};
-ghost use Rattle.ob_diagnosis.specs.Remarks.{Sees, Tells, shown_at};
+ghost use Rattle.ob_diagnosis.specs.Remarks.{IsUndeclared, Sees, Tells, shown_at};
 ghost use Rattle.ob_evidence.specs.Evidence.{AsksNothing, IsTrueOf};
 ghost use Rattle.ob_evidence.specs.Sites.{scene_of};
 ghost use Rattle.ob_messages.specs.Remarks.{remark_of};
@@ -9,6 +9,7 @@ ghost use Rattle.ob_messages.specs.Said.{evidence_of};
 
 use ob_evidence::facts::facts_of;
 use ob_evidence::site::{Site, kind_of};
+use ob_explain_names::declaring::declares;
 use ob_messages::matcher::View;
 use ob_messages::place::{halves, shown_place};
 use ob_messages::remark::Remark;
@@ -56,13 +57,24 @@ pub(crate) fn told(
         second: kind_of(site.second()),
         next: kind_of(site.next()),
         from: halves(site.text, site.place).1,
-        word: seen.word,
-        word_before: seen.word_before,
-        called: seen.called,
+        word: undeclared(site, seen.word),
+        word_before: undeclared(site, seen.word_before),
+        called: undeclared(site, seen.called),
         could: evidence.could,
         facts: seen.facts,
     };
     told_by(alloc, site, &view, evidence)
+}
+
+/// A word, if it is no name that the text declares; else none.
+fn undeclared<'w>(site: &Site<'_, '_>, word: &'w [u8]) -> &'w [u8]
+    ensures { IsUndeclared (scene_of site.now) result.now }
+{
+    if declares(site.text, site.tokens, word) {
+        b""
+    } else {
+        word
+    }
 }
 
 /// What the tables say where this may be seen.

@@ -4,14 +4,15 @@ ghost use Rattle.std.specs.Prelude.{IfOk};
 ghost use Rattle.ob_evidence.specs.Constructs.{AreShown};
 ghost use Rattle.ob_evidence.specs.Sites.{scene_of};
 
-use crate::calls::{called, declares, ends_repeat, is_assigned, lists};
-use crate::foreign::{is_foreign, is_small_keyword, is_type_name};
+use crate::calls::{begins_with_bracket, called, ends_repeat, is_assigned, is_procedure, lists};
+use crate::foreign::{is_foreign, is_type_name};
 use crate::further::{begins_block, declares_type, has_ended, is_closed_behind};
 use crate::keywords::{is_keyword, keyword_before, keyword_there};
 use crate::missing::missing_there;
 use ob_evidence::constructs::{Shown, shown_there};
 use ob_evidence::facts::note;
 use ob_evidence::site::{Site, is_kind};
+use ob_explain_names::declaring::declares;
 use ob_explain_names::open::open_construct;
 use ob_explain_names::parens::is_in_parens;
 use ob_messages::table::Fact;
@@ -43,13 +44,8 @@ pub(crate) fn seen_there(
     note_words(facts, site)?;
     let call = called(site, could);
     let name = site.word_of(call);
-    let is_undeclared = !name.is_empty() && !declares(site, site.tokens, name);
+    let is_undeclared = !name.is_empty() && !is_procedure(site, site.tokens, name);
     note(facts, is_undeclared, Fact::UndeclaredCall)?;
-    note(
-        facts,
-        is_undeclared && is_small_keyword(name),
-        Fact::SmallKeyword,
-    )?;
     note(facts, ends_repeat(site, could), Fact::RepeatEnd)?;
     if let Some(missing) = missing_there(alloc, site, could)? {
         facts.push(missing)?;
@@ -127,23 +123,24 @@ fn note_tokens(
 fn note_words(facts: &mut Vec<Fact>, site: &Site<'_, '_>) -> Result<(), AllocError> {
     let word = site.word();
     let before = site.word_of(site.last());
-    let is_procedure = declares(site, site.tokens, before);
-    let is_listed = lists(site, before);
-    let is_known = is_foreign(before) || is_small_keyword(before);
+    let is_call = is_procedure(site, site.tokens, before);
+    let is_declared = declares(site.text, site.tokens, before);
     note(
         facts,
-        is_known && !is_procedure && !is_listed,
+        is_kind(site.last(), Kind::Ident) && is_foreign(before) && !is_declared,
         Fact::Foreign,
     )?;
     note(
         facts,
-        !before.is_empty() && (is_procedure || !is_listed),
+        !before.is_empty() && (is_call || !lists(site, before)),
         Fact::NoArray,
     )?;
-    note(facts, is_procedure, Fact::BehindCall)?;
+    note(facts, is_call, Fact::BehindCall)?;
+    note(facts, is_declared, Fact::DeclaredBefore)?;
+    note(facts, begins_with_bracket(site), Fact::CallBracket)?;
     note(
         facts,
-        !declares(site, site.tokens, word) && !is_assigned(site),
+        !is_procedure(site, site.tokens, word) && !is_assigned(site),
         Fact::Actual,
     )?;
     note(facts, is_type_name(before), Fact::TypeBefore)?;
@@ -157,11 +154,6 @@ fn note_words(facts: &mut Vec<Fact>, site: &Site<'_, '_>) -> Result<(), AllocErr
         facts,
         is_type_name(next) || declares_type(site, next),
         Fact::TypeNext,
-    )?;
-    note(
-        facts,
-        is_small_keyword(word) || is_small_keyword(before),
-        Fact::SmallKeyword,
     )
 }
 

@@ -1,5 +1,6 @@
 -- Names: the nearest one, what a name is declared as and where, and the name that stands behind an END.
-use Rattle.std.specs.Prelude.{ℕ, ◌==◌, Bool, not, List, [], ◌∷◌, Option, Some, None, if◌then◌else◌}
+use Rattle.std.specs.Prelude.{ℕ, ◌==◌, Bool, true, false, not, List, [], ◌∷◌, Option, Some, None, if◌then◌else◌}
+use Rattle.ob_scan.specs.declared.token.Kind.{Kind}
 use Rattle.ob_scan.specs.declared.token.Kind.TheVariants as Kinds
 use Rattle.ob_scan.specs.declared.token.Token.{Token}
 use Rattle.ob_explain_names.specs.Lookup.{sort_of}
@@ -7,6 +8,8 @@ use Rattle.ob_explain_names.specs.declared.known.Known.{Known}
 use Rattle.ob_explain_names.specs.declared.known.Sort.{Sort}
 use Rattle.ob_explain_names.specs.declared.known.Sort.TheVariants as Sorts
 use Rattle.ob_explain_words.specs.Nearest.{nearest, nearest_token}
+use Rattle.ob_explain_words.specs.declared.need.Need.{Need}
+use Rattle.ob_explain_words.specs.declared.need.Need.TheVariants as Needs
 use Rattle.ob_explain_words.specs.declared.distance.Candidate.{Candidate}
 use Rattle.ob_explain_names.specs.Declarations.{declared_as}
 use Rattle.ob_explain_parts.specs.FieldNames.{fields_at}
@@ -14,14 +17,43 @@ use Rattle.ob_explain_names.specs.Ends.{name_of_end}
 use Rattle.ob_messages.specs.Places.{place_in}
 use Rattle.ob_messages.specs.declared.table.Fact.{Fact}
 use Rattle.ob_messages.specs.declared.table.Fact.TheVariants as Facts
-use Rattle.ob_evidence.specs.Sites.{Scene, is_kind, last, word}
+use Rattle.ob_evidence.specs.Sites.{Scene, is_kind, kind_of, last, next, word}
+
+abbrev pub leads_to_statement : Kind → Bool
+leads_to_statement Kinds.Semicolon = true
+leads_to_statement Kinds.Begin = true
+leads_to_statement Kinds.Then = true
+leads_to_statement Kinds.Else = true
+leads_to_statement Kinds.Do = true
+leads_to_statement Kinds.Repeat = true
+leads_to_statement _ = false
+
+-- a statement begins with the variable that it assigns, or with the procedure that it calls
+abbrev pub needed_first : (next : Option Kind) → Need
+needed_first None = Needs.Any
+needed_first (Some Kinds.Assign) = Needs.Variable
+needed_first (Some Kinds.LeftBracket) = Needs.Variable
+needed_first (Some Kinds.Dot) = Needs.Variable
+needed_first (Some other) = Needs.Procedure
+
+abbrev pub needed_behind : Kind → (next : Option Kind) → Need
+needed_behind Kinds.Colon next = Needs.TypeName
+needed_behind Kinds.Of next = Needs.TypeName
+needed_behind Kinds.Equal next = Needs.NoProcedure
+needed_behind last next = if leads_to_statement last then needed_first next else Needs.Value
+
+-- What a name has to stand for between these tokens: behind `:` and OF a type; behind `=`, which also stands before a type, no procedure;
+-- and within a statement a constant or a variable.
+abbrev pub needed : (last next : Option Kind) → Need
+needed None next = Needs.Any
+needed (Some last) next = needed_behind last next
 
 -- The name nearest to the word at the place: behind a `.` of the fields of the record before it, and else of the language's own names and
--- of those that are visible.
+-- of those that are visible, of those that stand for what is needed there.
 abbrev pub near_name : Scene → Candidate
 near_name s =
     if is_kind (last s) Kinds.Dot then nearest_token s.text (fields_at s.text s.known s.tokens s.place) (word s)
-    else nearest s.text s.known (word s)
+    else nearest s.text (needed (kind_of (last s)) (kind_of (next s))) s.known (word s)
 
 -- at a distance of 3 none is near
 abbrev pub is_near : Candidate → Bool

@@ -3,9 +3,10 @@
 ghost use Rattle.std.specs.Prelude.{◌≡◌, IfOk};
 ghost use Rattle.ob_explain_names.specs.Declarations.{is_there};
 ghost use Rattle.ob_evidence.specs.Names.{declared, declared_line, end_name, is_near, near_name, parameters, sort_fact, sort_facts, sort_there};
+ghost use Rattle.ob_evidence.specs.Names.{leads_to_statement, needed, needed_first};
 ghost use Rattle.ob_evidence.specs.Sites.{scene_of};
 
-use crate::site::{Site, is_kind};
+use crate::site::{Site, is_kind, kind_of};
 use ob_explain_names::declarations::declared_as;
 use ob_explain_names::ends::name_of_end;
 use ob_explain_names::known::{Known, Sort};
@@ -13,12 +14,13 @@ use ob_explain_names::lookup::sort_of;
 use ob_explain_parts::field_names::fields_at;
 use ob_explain_words::distance::{Candidate, FAR};
 use ob_explain_words::nearest::{nearest, nearest_token};
+use ob_explain_words::need::Need;
 use ob_messages::place::place_in;
 use ob_messages::table::Fact;
 use ob_scan::{Kind, Token};
 use std::alloc::{AllocError, Global};
 
-/// The name nearest to the word at the place: a field of the record before it, or a name that is visible.
+/// The name nearest to the word at the place: a field of the record before it, or a name that is visible and stands for what is needed.
 pub fn near_name(alloc: Global, site: &Site<'_, '_>) -> Result<Candidate, AllocError>
     ensures { IfOk result (λ near. near ≡ near_name (scene_of site.now)) }
 {
@@ -27,8 +29,48 @@ pub fn near_name(alloc: Global, site: &Site<'_, '_>) -> Result<Candidate, AllocE
         let fields = fields_at(alloc, site.text, site.known, site.tokens, site.place)?;
         Ok(nearest_token(site.text, &fields, word))
     } else {
-        Ok(nearest(site.text, site.known, word))
+        let need = needed(kind_of(site.last()), kind_of(site.next()));
+        Ok(nearest(site.text, need, site.known, word))
     }
+}
+
+/// What a name has to stand for behind this token and before that one.
+fn needed(last: Option<Kind>, next: Option<Kind>) -> Need
+    ensures { result ≡ needed last next }
+{
+    match last {
+        Some(Kind::Colon | Kind::Of) => Need::TypeName,
+        Some(Kind::Equal) => Need::NoProcedure,
+        Some(last) => {
+            if leads_to_statement(last) {
+                needed_first(next)
+            } else {
+                Need::Value
+            }
+        }
+        None => Need::Any,
+    }
+}
+
+/// What the first name of a statement has to stand for, before this token.
+fn needed_first(next: Option<Kind>) -> Need
+    ensures { result ≡ needed_first next }
+{
+    match next {
+        Some(Kind::Assign | Kind::LeftBracket | Kind::Dot) => Need::Variable,
+        Some(_) => Need::Procedure,
+        None => Need::Any,
+    }
+}
+
+/// Whether a statement may begin behind a token.
+pub fn leads_to_statement(kind: Kind) -> bool
+    ensures { result ≡ leads_to_statement kind }
+{
+    matches!(
+        kind,
+        Kind::Semicolon | Kind::Begin | Kind::Then | Kind::Else | Kind::Do | Kind::Repeat
+    )
 }
 
 /// Whether a name is near.

@@ -1,5 +1,5 @@
 -- A text that is no module has no names.
-use Rattle.std.proofs.Common.{◌≡◌, ℕ, ◌<◌, ◌≤◌, List, [], length, true, false, sym, arith}
+use Rattle.std.proofs.Common.{◌≡◌, ℕ, List, [], false, sym, arith}
 use Rattle.std.proofs.lemmas.Bool.{false≢true}
 use Rattle.ob_scan.specs.declared.fault.ScanFault.TheVariants as Scanning
 use Rattle.ob_grammar.specs.Texts.{IsTextOf}

@@ -1,5 +1,5 @@
 -- A text without a list of tokens.
-use Rattle.std.proofs.Common.{◌≡◌, ℕ, ◌<◌, ◌≤◌, List, [], length, true, false, sym, arith}
+use Rattle.std.proofs.Common.{◌≡◌, ℕ, List, [], false, sym, arith}
 use Rattle.std.proofs.lemmas.Bool.{false≢true}
 use Rattle.ob_scan.specs.declared.fault.ScanFault.{ScanFault}
 use Rattle.ob_scan.specs.declared.fault.ScanFault.TheVariants.{StrayByte, NumberTooLarge, OpenComment, NameTooLong, TooLong, NoMemory}

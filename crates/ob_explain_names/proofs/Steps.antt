@@ -1,5 +1,5 @@
 -- Tokens one by one.
-use Rattle.std.proofs.Common.{◌≡◌, ℕ, suc, ◌+◌, ◌<◌, ◌≤◌, Bool, true, false, cond, List, [], ◌∷◌, Option, Some, None, length, get_or, drop, refl, sym, ◌∙◌, ap, add-one, drop-cons, drop_of_length-le, arith}
+use Rattle.std.proofs.Common.{◌≡◌, ℕ, suc, ◌+◌, ◌<◌, ◌≤◌, true, false, cond, List, Option, Some, None, length, get_or, drop, sym, ◌∙◌, ap, add-one, drop-cons, drop_of_length-le}
 use Rattle.ob_scan.specs.declared.token.Token.{Token}
 use Rattle.ob_explain_names.specs.Actuals.{comma, commas, ends_call}
 use Rattle.ob_explain_names.specs.Ends.{closed_before, name_of_end, or_here}

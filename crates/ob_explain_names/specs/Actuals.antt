@@ -1,5 +1,5 @@
 -- How many actuals a call has, of the tokens behind its name.
-use Rattle.std.specs.Prelude.{ℕ, suc, ◌+◌, ◌&&◌, not, Bool, true, false, List, [], ◌∷◌, if◌then◌else◌}
+use Rattle.std.specs.Prelude.{ℕ, ◌+◌, ◌&&◌, not, Bool, true, false, List, [], ◌∷◌, if◌then◌else◌}
 use Rattle.ob_scan.specs.declared.token.Kind.{Kind}
 use Rattle.ob_scan.specs.declared.token.Kind.TheVariants.{LeftParen, RightParen, Comma, Semicolon, End, Else, Elsif, Until}
 use Rattle.ob_scan.specs.declared.token.Token.{Token}

@@ -1,6 +1,7 @@
 pub mod Actuals
 pub mod Around
 pub mod Declarations
+pub mod Declaring
 pub mod Ends
 pub mod Kinds
 pub mod Known

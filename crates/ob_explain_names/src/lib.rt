@@ -7,6 +7,7 @@ pub mod actuals;
 pub mod around;
 pub mod declarations;
 pub mod declared;
+pub mod declaring;
 pub mod ends;
 pub mod kinds;
 pub mod known;

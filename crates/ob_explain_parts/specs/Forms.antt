@@ -103,13 +103,10 @@ form_at text known tokens (Some t) =
     else if is_sign t.kind then Integer
     else operand_form text known tokens t
 
-abbrev pub is_inside : Token → Bool
-is_inside t = not (is_left t.kind)
-
 -- of what stands in parentheses, of the tokens behind the `(`: `(a = 1)` is a BOOLEAN, and `((a) + 1)` is of the type of a
 abbrev pub form_inside : (text : List ℕ) → List Known → List Token → (inside : List Token) → Form
 form_inside text known tokens inside =
-    if has_truth 0 inside then Boolean else form_at text known tokens (find is_inside inside)
+    if has_truth inside then Boolean else form_at text known tokens (find (λ t. not (is_left t.kind)) inside)
 
 -- of what begins with these tokens, which is of the type of its first operand
 abbrev pub form_behind : (text : List ℕ) → List Known → List Token → (behind : List Token) → Form

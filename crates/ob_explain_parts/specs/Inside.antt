@@ -1,5 +1,6 @@
 -- Of which type an expression in parentheses is, by the operators in it.
 use Rattle.std.specs.Prelude.{ℕ, ◌+◌, ◌-◌, ◌==◌, ◌&&◌, ◌||◌, Bool, true, false, List, [], ◌∷◌, if◌then◌else◌}
+use Rattle.std.specs.List.{list_any}
 use Rattle.ob_scan.specs.declared.token.Kind.{Kind}
 use Rattle.ob_scan.specs.declared.token.Kind.TheVariants as Kinds
 use Rattle.ob_scan.specs.declared.token.Token.{Token}
@@ -16,19 +17,20 @@ takes_truths _ = false
 abbrev pub gives_truth : Kind → Bool
 gives_truth kind = is_relation kind || takes_truths kind
 
--- the `)` of the parentheses themselves, where so many others are open in them
-abbrev pub closes_there : (parens : ℕ) → Kind → Bool
-closes_there parens kind = is_right kind && (parens == 0)
+-- how many parentheses are open behind a token
+abbrev pub open_behind : (opened : ℕ) → Kind → ℕ
+open_behind opened kind = if is_left kind then opened + 1 else if is_right kind then opened - 1 else opened
 
--- the parentheses that are open behind a token
-abbrev pub open_behind : (parens : ℕ) → Kind → ℕ
-open_behind parens kind = if is_left kind then parens + 1 else if is_right kind then parens - 1 else parens
+-- a `)` that closes more than was opened
+abbrev pub closes_there : (opened : ℕ) → Kind → Bool
+closes_there opened kind = is_right kind && (opened == 0)
 
--- Whether an operator that gives a BOOLEAN stands in parentheses, of the tokens behind the `(`. No INTEGER has one in it: `(a + v[i])` has
+-- what stands in parentheses, of the tokens behind their `(`: all before the first `)` that closes more than was opened
+unfoldable pub within : (opened : ℕ) → (behind : List Token) → List Token
+within opened [] = []
+within opened (t ∷ rest) = if closes_there opened t.kind then [] else t ∷ within (open_behind opened t.kind) rest
+
+-- An operator that gives a BOOLEAN stands in parentheses, of the tokens behind the `(`. No INTEGER has one in it: `(a + v[i])` has
 -- none, `(a = v[i])` has one.
-unfoldable pub has_truth : (parens : ℕ) → (inside : List Token) → Bool
-has_truth parens [] = false
-has_truth parens (t ∷ rest) =
-    if closes_there parens t.kind then false
-    else if gives_truth t.kind then true
-    else has_truth (open_behind parens t.kind) rest
+abbrev pub has_truth : (behind : List Token) → Bool
+has_truth behind = list_any (λ t. gives_truth t.kind) (within 0 behind)

@@ -1,9 +1,10 @@
 //! Of which type an operand is, by the tokens beside a place and the declaration of its name.
 
-ghost use Rattle.std.specs.Prelude.{◌≡◌, IfOk, find};
+ghost use Rattle.std.specs.Prelude.{◌≡◌, IfOk, find, not};
 ghost use Rattle.ob_explain_names.specs.Declarations.{declared_as};
+ghost use Rattle.ob_explain_names.specs.Kinds.{is_left};
 ghost use Rattle.ob_explain_parts.specs.Forms.{begins_actual, behind_operand, constant_form, ends_actual, form_at, form_before, form_behind, form_by};
-ghost use Rattle.ob_explain_parts.specs.Forms.{form_inside, form_instead, form_of_name, form_of_type, is_inside, is_own, is_relation_there, joins, joins_there};
+ghost use Rattle.ob_explain_parts.specs.Forms.{form_inside, form_instead, form_of_name, form_of_type, is_own, is_relation_there, joins, joins_there};
 ghost use Rattle.ob_explain_parts.specs.Forms.{operand_form, or_single, other};
 ghost use Rattle.ob_explain_parts.specs.Forms.{other_of, own_form, role_between, role_of, told_form, truth_behind, truth_form, type_form};
 ghost use Rattle.ob_explain_parts.specs.Forms.{variable_at};
@@ -105,15 +106,9 @@ fn form_inside(
 
 /// The first token behind all `(` with which these begin.
 fn first_inside(inside: &[Token]) -> Option<Token>
-    ensures { result ≡ find is_inside inside.now }
+    ensures { result ≡ find (λ t. not (is_left t.kind)) inside.now }
 {
-    inside.iter().copied().find(|token| is_inside(*token))
-}
-
-fn is_inside(token: Token) -> bool
-    ensures { result ≡ is_inside token }
-{
-    !is_left(token.kind)
+    inside.iter().copied().find(|token| !is_left(token.kind))
 }
 
 /// Of what begins with a token and has no parentheses around it.

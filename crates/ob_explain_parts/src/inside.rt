@@ -9,7 +9,7 @@ use ob_scan::{Kind, Token};
 /// Whether an operator that gives a BOOLEAN stands in parentheses, of the tokens behind the `(`.
 #[tactic(auto, using(crate::proofs::InsideSteps::ends_there, crate::proofs::InsideSteps::is_there, crate::proofs::InsideSteps::goes_on, crate::proofs::InsideSteps::none_left))]
 pub(crate) fn has_truth(inside: &[Token]) -> bool
-    ensures { result ≡ has_truth 0 inside.now }
+    ensures { result ≡ has_truth inside.now }
 {
     let mut parens = 0;
     for token in inside {
@@ -31,7 +31,7 @@ fn closes_there(parens: usize, kind: Kind) -> bool
     is_right(kind) && parens == 0
 }
 
-/// The parentheses that are parens behind a token.
+/// The parentheses that are open behind a token.
 fn open_behind(parens: usize, kind: Kind) -> usize
     requires { parens < 2 ^ 63 }
     ensures count { result ≡ open_behind parens kind }

@@ -5,6 +5,7 @@ pub mod Kinds
 pub mod Lengths
 pub mod Named
 pub mod Nearest
+pub mod Needs
 pub mod Scopes
 pub mod Types
 pub mod Words

@@ -11,5 +11,6 @@ mod lengths;
 mod listed;
 mod named;
 pub mod nearest;
+pub mod need;
 mod scope;
 pub mod words;

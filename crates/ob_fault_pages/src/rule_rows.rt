@@ -15,11 +15,15 @@ INTEGER, BOOLEAN, TRUE and FALSE.
 small letters and capitals alone, or else by one or two edits (a letter
 changed, put in, left out, or swapped with the next one), where these are fewer
 than half of the letters of the name that stands there; of equally near ones
-the first.
+the first. Where it has a hint, it asks for none.
 
 It looks at the language's own names, at those that the module declares before
 the place, and at those of each procedure in which it stands; and of a field
 that is not there at the fields of the record alone.
+
+Of these it takes only such as can stand there: types behind `:` and OF; a
+variable where a statement begins before `:=`, `[` or `.`, and else a
+procedure; no procedure behind `=`; and elsewhere constants and variables.
 
 Explained as `a name is declared before it is used, and none of this name is
 visible here`.
@@ -235,7 +239,8 @@ constant that is declared as one, behind a minus or not.
     a divisor is 1 or more, and this one is not, so there is no constant
   MODULE M; VAR n: INTEGER; PROCEDURE P; VAR a: ARRAY n OF INTEGER; END P; END M.
     C5 at 52
-    a constant has no variables in it
+    the length of an array is a constant, as n of CONST n = 4, and has no
+      variables in it
 
 All commands tell C1 to C10, the first in the text.
 

@@ -45,7 +45,7 @@ digits, blanks and the symbols of the language`.
 
   MODULE M; // text
     S1 at 10
-    hint: a comment is written (* .. *)
+    hint: a comment is written (* .. *), and a quotient with DIV
 
   MODULE M; VAR x: INTEGER; BEGIN x := 6 / 2 END M.
     S1 at 39
@@ -131,23 +131,29 @@ stand, it says `the module can't go on like this; look here, and at what stands
 just before it`.
 
 A word of another language, as FOR, is a name, and so is a misspelt keyword.
-Where a name may stand, as at the beginning of a statement, what is told is the
-word behind it. So `explain` names the word before too, where it is a word of
-another language or a misspelt keyword, and where two names stand side by side
-and no operator could stand between them: `` expected .. behind the name `FOR`
-``.
+Where a name may stand, as where a statement begins, what is told is the word
+behind it.
 
-Where it knows none of the slips below, it asks whether a `;` is missing, or
-THEN, DO, a `]` or a `)` where one of these could stand: exactly where the
-token could stand there behind it, by the grammar. Of a `,` it asks so too,
-between names that are declared and between the actuals of a call that is
-closed behind them.
+So `explain` names the word before too, where the text doesn't declare it and
+it is a word of another language or a misspelt keyword; and where two names
+stand side by side and no operator could stand between them: `` expected ..
+behind the name `FOR` ``.
+
+Where it knows none of the slips below, it asks whether a `(` is missing, which
+a `)` behind it closes; whether END is, where the name there is the one of what
+ends; or an operator, at a number or at a name in the same line that begins no
+assignment and no call.
+
+Else it asks whether a `;` is missing, or THEN, DO, a `]` or a `)` where one of
+these could stand: exactly where the token could stand there behind it, by the
+grammar. Of a `,` it asks so too, between names that are declared and between
+the actuals of a call that is closed behind them.
 
 It asks first whether a keyword is meant. It looks at the token there, and else
 at the one just before it: where that is a name which the text has nowhere
-before, and no word of another language, and one or two edits, as at C1, lead
-to a keyword with which, in its place, the text goes on with the token behind
-it. Of several such keywords it asks for the nearest.
+before and declares nowhere, and no word of another language, and one or two
+edits, as at C1, lead to a keyword with which, in its place, the text goes on
+with the token behind it. Of several such keywords it asks for the nearest.
 
 A missing END is often told far below. So `explain` tells of a construct that
 is open there the line in which it begins. Open at a place is each MODULE,

@@ -1,5 +1,5 @@
 -- Phrases one by one.
-use Rattle.std.proofs.Common.{◌≡◌, ℕ, suc, ◌+◌, ◌<◌, ◌≤◌, List, [], ◌∷◌, ◌++◌, length, take, drop, get_or, sym, ◌∙◌, ap, subst, append_assoc, cond, true, false, add-one, drop-cons, drop_of_length-le}
+use Rattle.std.proofs.Common.{◌≡◌, ℕ, suc, ◌+◌, ◌<◌, ◌≤◌, List, [], ◌∷◌, ◌++◌, length, drop, get_or, sym, ◌∙◌, ap, append_assoc, cond, true, false, add-one, drop-cons, drop_of_length-le}
 use Rattle.std.specs.Prelude.{map}
 use Rattle.ob_scan.specs.declared.token.Kind.{Kind}
 use Rattle.ob_messages.specs.declared.groups.Group.{Group}

@@ -1,5 +1,5 @@
 -- Which row of a table is given at a place.
-use Rattle.std.specs.Prelude.{ℕ, ◌&&◌, ◌||◌, Bool, true, false, not, List, map, find, nat_eq, Option, Some, None, option_map}
+use Rattle.std.specs.Prelude.{ℕ, ◌||◌, Bool, false, not, List, map, find, nat_eq, Option, Some, None, option_map}
 use Rattle.std.specs.List.{list_all, list_any, starts_with}
 use denote.Bor.{Bor}
 use denote.Enum.Bare.{sameb}
@@ -261,7 +261,21 @@ hint_by number.P3 view = first view construct_rows
 hint_by number.C1 view = option_or (first view name_rows) (first view word_rows)
 hint_by number.C3 view = first view rule_rows
 hint_by number.C4 view = first view rule_rows
+hint_by number.C10 view = first view rule_rows
 hint_by other view = None
 
 abbrev pub hint_of : View → Option (List Piece)
 hint_of view = hint_by view.number view
+
+-- the other where there is none
+abbrev pub unless : {A : Type 0} → Option A → Option A → Option A
+unless None other = other
+unless (Some it) other = None
+
+-- the end of a sentence: that of a name that is not there tells another name only where no hint is given
+abbrev pub end_by : Number → View → Option (List Piece)
+end_by number.C1 view = unless (hint_of view) (first view end_rows)
+end_by other view = first view end_rows
+
+abbrev pub end_of : View → Option (List Piece)
+end_of view = end_by view.number view

@@ -5,7 +5,7 @@ use denote.Enum.Bare.{sameb}
 use Rattle.ob_scan.specs.declared.token.Kind.{Kind}
 use Rattle.ob_messages.specs.Groups.{groups, listed, phrases}
 use Rattle.ob_messages.specs.Kinds.{kind_name, sample}
-use Rattle.ob_messages.specs.Rows.{Piece, end_rows, first, hint_of, sentence_of}
+use Rattle.ob_messages.specs.Rows.{Piece, end_of, hint_of, sentence_of}
 use Rattle.ob_messages.specs.Shown.{shown_byte}
 use Rattle.ob_messages.specs.contracts.table.Type.{the_type}
 use Rattle.ob_messages.specs.declared.matcher.View.{View}
@@ -90,9 +90,9 @@ abbrev pub filled_or : Evidence → Option (List Piece) → List ℕ
 filled_or e None = []
 filled_or e (Some pieces) = filled e pieces
 
--- the first row of the fault's tables that holds, and the first end that does
+-- the first row of the fault's tables that holds, and its end
 abbrev pub sentence_text : View → Evidence → List ℕ
-sentence_text view e = filled_or e (sentence_of view) ++ filled_or e (first view end_rows)
+sentence_text view e = filled_or e (sentence_of view) ++ filled_or e (end_of view)
 
 abbrev pub hint_text : View → Evidence → Option (List ℕ)
 hint_text view e = option_map (filled e) (hint_of view)

@@ -1,5 +1,7 @@
 -- How a line of a text is shown.
 use Rattle.std.specs.Prelude.{ℕ, ◌+◌, ◌-◌, ◌==◌, ◌||◌, ◌&&◌, nat_le, nat_lt, Bool, List, [], ◌∷◌, ◌++◌, drop, length, map, take, codes, if◌then◌else◌}
+use Rattle.std.specs.List.{take_while}
+use Rattle.std.specs.Char.{is_ascii_alphanumeric}
 use Rattle.ob_messages.specs.Words.{word_at}
 
 -- a tab or a printable ASCII character as it is, a blank for a carriage return, and `?` for each other byte
@@ -10,12 +12,19 @@ shown_byte b = if (b == 9) || (nat_le 32 b && nat_le b 126) then b else if b == 
 abbrev pub blank_below : ℕ → ℕ
 blank_below b = if b == 9 then 9 else 32
 
+abbrev pub goes_on_word : ℕ → Bool
+goes_on_word b = is_ascii_alphanumeric b || (b == 95)
+
+-- the name or keyword that bytes begin with, and with it each `_`, which no name has
+abbrev pub whole_word : List ℕ → List ℕ
+whole_word bytes = if length (word_at bytes) == 0 then [] else take_while goes_on_word bytes
+
 -- a word in quotes, with a colon
 abbrev pub quoted : List ℕ → List ℕ
 quoted word = codes "`" ++ map shown_byte word ++ codes "`: "
 
 abbrev pub named : List ℕ → List ℕ
-named bytes = if length (word_at bytes) == 0 then [] else quoted (word_at bytes)
+named bytes = if length (whole_word bytes) == 0 then [] else quoted (whole_word bytes)
 
 -- a line of more than 160 bytes, of which these stand before a place and these from there on, is too long
 abbrev pub is_long : (before from : List ℕ) → Bool

@@ -96,6 +96,9 @@ pub const CONSTRUCT_ROWS: &[Row] = rows! {
 /// The end of a loop, and what else may be missing, up to the module; not behind a call of a name that no procedure has.
 pub const MISSING_ROWS: &[Row] = rows! {
     [Is(Fact::RepeatEnd)] => REPEAT_END;
+    [Is(Fact::NoLeftParen)] => &[PieceOf::Text("is a ( missing before it?")];
+    [Is(Fact::NoEnd)] => &[PieceOf::Text("is END missing before it? The name of what ends stands behind its END")];
+    [Not(Fact::UndeclaredCall), Is(Fact::NoOperator)] => &[PieceOf::Text("is an operator missing before it, as + or *?")];
     [Not(Fact::UndeclaredCall), Is(Fact::NoThen)] => &[PieceOf::Text("is THEN missing before it?")];
     [Not(Fact::UndeclaredCall), Is(Fact::NoDo)] => &[PieceOf::Text("is DO missing before it?")];
     [Not(Fact::UndeclaredCall), Is(Fact::NoSemicolon)] => &[PieceOf::Text("is a ; missing before it?")];

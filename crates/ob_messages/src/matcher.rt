@@ -2,10 +2,10 @@
 
 ghost use Rattle.std.specs.Prelude.{◌≡◌, map, option_map};
 ghost use Rattle.std.specs.List.{list_all, list_any};
-ghost use Rattle.ob_messages.specs.Rows.{byte_rows, construct_rows, declaration_rows, end_rows, first, function_rows, has, has_fact, has_word, hint_of, holds};
+ghost use Rattle.ob_messages.specs.Rows.{byte_rows, construct_rows, declaration_rows, end_of, end_rows, first, function_rows, has, has_fact, has_word, hint_of, holds};
 ghost use Rattle.ob_messages.specs.Rows.{is_one, is_seen, is_word, limit_rows, missing_rows, name_rows, of_tokens, option_or, pieces_of, placed_word_rows};
 ghost use Rattle.ob_messages.specs.Rows.{row_of, rule_rows, sentence_of, sentence_rows, separator_rows, sign_rows, statement_rows, symbol_rows};
-ghost use Rattle.ob_messages.specs.Rows.{token_hint, type_rows, type_token_rows, when_of, word_rows};
+ghost use Rattle.ob_messages.specs.Rows.{token_hint, type_rows, type_token_rows, unless, when_of, word_rows};
 
 use crate::construct_rows::{CONSTRUCT_ROWS, MISSING_ROWS};
 use crate::function_rows::FUNCTION_ROWS;
@@ -30,7 +30,7 @@ pub struct View<'a> {
     pub next: Option<Kind>,
     /// The bytes from there on.
     pub from: &'a [u8],
-    /// The words there and before it, and the name of the call that ends there; else empty.
+    /// The names there and before it, and the name of the call that ends there, of those that the text does not declare; else empty.
     pub word: &'a [u8],
     pub word_before: &'a [u8],
     pub called: &'a [u8],
@@ -58,7 +58,7 @@ pub(crate) fn hint_of(view: &View) -> Option<&'static [Piece]>
         Number::P1 => token_hint(view),
         Number::P3 => first(construct_rows(), view),
         Number::C1 => either(first(name_rows(), view), word_hint(view)),
-        Number::C3 | Number::C4 => first(rule_rows(), view),
+        Number::C3 | Number::C4 | Number::C10 => first(rule_rows(), view),
         _ => None,
     }
 }
@@ -96,11 +96,24 @@ pub fn word_hint(view: &View) -> Option<&'static [Piece]>
     first(word_rows(), view)
 }
 
-/// The end of a sentence.
+/// The end of a sentence. Beside a hint on a name that is not there no other name is told.
 pub(crate) fn end_of(view: &View) -> Option<&'static [Piece]>
-    ensures { option_map pieces_of result ≡ first view.now end_rows }
+    ensures { option_map pieces_of result ≡ end_of view.now }
 {
-    first(end_rows(), view)
+    match view.number {
+        Number::C1 => unless(hint_of(view), first(end_rows(), view)),
+        _ => first(end_rows(), view),
+    }
+}
+
+/// The end of a sentence where there is no hint.
+fn unless(hint: Option<&'static [Piece]>, end: Option<&'static [Piece]>) -> Option<&'static [Piece]>
+    ensures { option_map pieces_of result ≡ unless (option_map pieces_of hint.entry) (option_map pieces_of end.entry) }
+{
+    match hint {
+        Some(_) => None,
+        None => end,
+    }
 }
 
 /// The first, or else the other one.

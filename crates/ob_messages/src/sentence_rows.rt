@@ -63,6 +63,7 @@ pub const LIMIT_ROWS: &[Row] = rows! {
     [On(Number::C5), Here(&[Kind::Plus, Kind::Minus, Kind::Times]), Is(Fact::First), Is(Fact::Second)] =>
         PieceOf::First, PieceOf::Text(" "), PieceOf::Opening, PieceOf::Text(" "), PieceOf::Second;
     [On(Number::C5), Here(&[Kind::Plus, Kind::Minus, Kind::Times])] => PieceOf::Text("the result");
+    [On(Number::C5), Last(&[Kind::Array])] => PieceOf::Text("the length of an array is a constant, as n of CONST n = 4, and has no variables in it");
     [On(Number::C5)] => PieceOf::Text("a constant has no variables in it");
     [On(Number::C6), Is(Fact::First)] => PieceOf::Text("an array has 1 to 4096 elements, and the length of this one is "), PieceOf::First;
     [On(Number::C6)] => PieceOf::Text("an array has 1 to 4096 elements");

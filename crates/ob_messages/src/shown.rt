@@ -1,7 +1,9 @@
 //! A line of a text as it is shown, with a mark below one of its columns.
 
 ghost use Rattle.std.specs.Prelude.{◌≡◌, ◌++◌, OnOk, map, string_bytes};
+ghost use Rattle.std.specs.List.{take_while};
 ghost use Rattle.ob_messages.specs.Shown.{blank_below, cut_blank, cut_mark, first_part, last_part, left_part, named, right_part, shown_byte};
+ghost use Rattle.ob_messages.specs.Shown.{goes_on_word, whole_word};
 
 use crate::words::word_at;
 use std::alloc::AllocError;
@@ -37,13 +39,38 @@ pub fn push_blanks(shown: &mut String, line: &[u8]) -> Result<(), AllocError>
 pub fn push_named(shown: &mut String, line: &[u8]) -> Result<(), AllocError>
     ensures { OnOk result (string_bytes shown.new ≡ string_bytes shown.old ++ named line.now) }
 {
-    let word = word_at(line);
+    let word = whole_word(line);
     if word.is_empty() {
         return Ok(());
     }
     shown.push_str("`")?;
     push_line(shown, word)?;
     shown.push_str("`: ")
+}
+
+/// The word that a line goes on with, and with it each `_`, which no name has.
+fn whole_word(line: &[u8]) -> &[u8]
+    ensures { result.now ≡ whole_word line.now }
+{
+    if word_at(line).is_empty() {
+        &line[..0]
+    } else {
+        word_bytes(line)
+    }
+}
+
+/// The letters, digits and `_` with which a line goes on.
+fn word_bytes(line: &[u8]) -> &[u8]
+    ensures { result.now ≡ take_while goes_on_word line.now }
+{
+    let length = line.iter().take_while(|byte| goes_on_word(**byte)).count();
+    &line[..length]
+}
+
+fn goes_on_word(byte: u8) -> bool
+    ensures { result ≡ goes_on_word byte }
+{
+    byte.is_ascii_alphanumeric() || byte == b'_'
 }
 
 /// What is shown of a line, of which these bytes stand before a place and these from there on.

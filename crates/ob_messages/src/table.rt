@@ -41,16 +41,18 @@ pub enum Fact {
     KeywordThere,
     /// It stands behind the END, the name and the `.` of the module.
     ModuleEnded,
-    /// A name is meant to be a keyword, and it is the one before; it is one but for small letters.
+    /// A name is meant to be a keyword, and it is the one before.
     Keyword,
     KeywordBefore,
-    SmallKeyword,
     /// The last token and the one there touch.
     Touching,
-    /// The word before is one of another language; it names no array; it names a procedure.
+    /// The word before is one of another language; it names no array; it names a procedure; the text declares it.
     Foreign,
     NoArray,
     BehindCall,
+    DeclaredBefore,
+    /// The statement begins with the name of a procedure and a `[`.
+    CallBracket,
     /// What stands there is an actual and begins no statement.
     Actual,
     /// The heading of a procedure could end there.
@@ -89,6 +91,10 @@ pub enum Fact {
     NoBracket,
     NoParen,
     NoComma,
+    NoLeftParen,
+    NoOperator,
+    /// An END is missing before it, and the name of what ends stands there.
+    NoEnd,
     /// A call ends there whose name no procedure has.
     UndeclaredCall,
     /// A name that is near, that is needed, or that stands for this.
@@ -96,9 +102,10 @@ pub enum Fact {
     Named,
     /// A constant, a type or a procedure of this name is declared further down.
     FurtherDown,
-    /// A field has this name; a variable of a procedure that has ended has it.
+    /// A field has this name; a variable of a procedure that has ended has it; the type has it in whose declaration it stands.
     Field,
     Elsewhere,
+    OwnType,
     /// The word is a type of numbers of another language.
     NumberType,
     /// The name stands in a record; it is declared before.
@@ -180,7 +187,7 @@ pub enum WhenOf<Text, Texts, Kinds> {
     Never(Kinds),
     /// The bytes from there on begin so.
     Sign(Text),
-    /// One of these words stands there, or before it, in small letters or large.
+    /// One of these words stands there, or before it, in small letters or large, and is no name that the text declares.
     Word(Texts),
     /// This is seen, or it is not.
     Is(Fact),

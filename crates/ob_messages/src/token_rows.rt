@@ -20,6 +20,14 @@ const INDEX: &[Piece] = &[PieceOf::Text("an element of an array is written a[i]"
 
 const CHANGE: &[Piece] = &[PieceOf::Text("a variable is changed by an assignment: x := x + 1")];
 
+const CHANGE_DOWN: &[Piece] = &[PieceOf::Text(
+    "a variable is changed by an assignment: x := x - 1",
+)];
+
+const CHANGE_TIMES: &[Piece] = &[PieceOf::Text(
+    "a variable is changed by an assignment: x := x * 2",
+)];
+
 const NO_BITS: &[Piece] = &[PieceOf::Text(
     "& is the and of two BOOLEANs; there are no operations on the bits of a number",
 )];
@@ -74,6 +82,14 @@ const NO_EXPORT: &[Piece] = &[PieceOf::Text(
 
 const NO_TYPE: &[Piece] = &[PieceOf::Text("behind names stand : and their type, as k: INTEGER")];
 
+const NO_LIST: &[Piece] = &[PieceOf::Text(
+    "behind names stand : and their type, and names of one type are separated by commas: j, k: INTEGER",
+)];
+
+const NO_PROCEDURE: &[Piece] = &[PieceOf::Text(
+    "is PROCEDURE missing before the name? An export is written PROCEDURE Get*(VAR v: INTEGER);",
+)];
+
 const NO_BEGIN: &[Piece] = &[PieceOf::Text(
     "statements stand behind BEGIN; is it missing before this one?",
 )];
@@ -114,6 +130,8 @@ const FOREIGN_CALL: &[Piece] = &[PieceOf::Text(
 pub const SIGN_ROWS: &[Row] = rows! {
     [Is(Fact::Keyword), Word(&["XOR"])] => &[PieceOf::Text("there is no XOR; of two BOOLEANs a # b says that one is TRUE and one is not")];
     [Is(Fact::Keyword)] => &[PieceOf::Text("did you mean "), PieceOf::Keyword, PieceOf::Text("?")];
+    [Here(&[Kind::Comma]), Could(&[Kind::RightBracket]), Is(Fact::CallBracket)] => ACTUALS;
+    [Last(&[Kind::RightBracket]), Could(&[Kind::Assign]), Is(Fact::CallBracket)] => ACTUALS;
     [Here(&[Kind::Semicolon]), Could(&[Kind::RightParen]), Word(&["FOR", "FOREACH"])] => &[PieceOf::Text(NO_FOR)];
     [Here(&[Kind::LeftParen]), Last(&[Kind::Ident]), Second(&[Kind::Dot]), Is(Fact::NoArray)] => FOREIGN_CALL;
     [Here(&[Kind::LeftParen]), Could(&[Kind::LeftBracket]), Word(&["INTEGER", "BOOLEAN", "INT", "BOOL"])] => &[PieceOf::Text(
@@ -132,13 +150,14 @@ pub const SIGN_ROWS: &[Row] = rows! {
 /// Signs in the place of an assignment, of a comparison or of a comment.
 pub const SYMBOL_ROWS: &[Row] = rows! {
     [Here(&[Kind::Assign]), Last(&[Kind::RightParen]), Never(&[Kind::And])] => INDEX;
+    [Sign("=:"), Could(&[Kind::Assign])] => &[PieceOf::Text("an assignment is written with :=")];
     [Here(&[Kind::Equal]), Could(&[Kind::Assign])] => &[PieceOf::Text("= compares, and := assigns")];
     [Sign("<-"), Could(&[Kind::Assign])] => &[PieceOf::Text("an assignment is written with :=")];
     [Sign("++"), Could(&[Kind::Assign])] => CHANGE;
-    [Sign("--"), Could(&[Kind::Assign])] => CHANGE;
+    [Sign("--"), Could(&[Kind::Assign])] => CHANGE_DOWN;
     [Sign("+="), Could(&[Kind::Assign])] => CHANGE;
-    [Sign("-="), Could(&[Kind::Assign])] => CHANGE;
-    [Sign("*="), Could(&[Kind::Assign])] => CHANGE;
+    [Sign("-="), Could(&[Kind::Assign])] => CHANGE_DOWN;
+    [Sign("*="), Could(&[Kind::Assign])] => CHANGE_TIMES;
     [Sign("->"), Could(&[Kind::Assign])] => &[PieceOf::Text("there are no pointers; a field is written behind its record, as r.f")];
     [Here(&[Kind::Greater]), Last(&[Kind::Minus]), Is(Fact::Touching)] =>
         &[PieceOf::Text("there are no pointers; a field is written behind its record, as r.f")];
@@ -150,9 +169,13 @@ pub const SYMBOL_ROWS: &[Row] = rows! {
         Never(&[Kind::Equal])
     ] => COMPARISON;
     [
-        Here(&[Kind::Plus, Kind::Minus]), Last(&[Kind::Plus, Kind::Minus]), Is(Fact::Touching),
+        Here(&[Kind::Plus]), Last(&[Kind::Plus]), Is(Fact::Touching),
         Next(&[Kind::RightBracket, Kind::RightParen, Kind::Semicolon, Kind::End, Kind::Comma, Kind::Then, Kind::Do, Kind::Assign])
     ] => CHANGE;
+    [
+        Here(&[Kind::Minus]), Last(&[Kind::Minus]), Is(Fact::Touching),
+        Next(&[Kind::RightBracket, Kind::RightParen, Kind::Semicolon, Kind::End, Kind::Comma, Kind::Then, Kind::Do, Kind::Assign])
+    ] => CHANGE_DOWN;
     [Here(&[Kind::Minus]), Last(&[Kind::Minus]), Is(Fact::Touching), Could(&[Kind::Number]), Never(&[Kind::Minus])] =>
         &[PieceOf::Text("a comment is written (* .. *); a sign behind an operator stands in parentheses, as 3 - (-k)")];
     [Here(&[Kind::Plus, Kind::Minus]), Could(&[Kind::Number]), Never(&[Kind::Minus])] => &[PieceOf::Text(
@@ -246,6 +269,12 @@ pub const TYPE_TOKEN_ROWS: &[Row] = rows! {
         &[PieceOf::Text("a parameter without VAR has its name and its type alone, as x: INTEGER; what is handed over is copied")];
     [Here(&[Kind::Var]), Last(&[Kind::Colon])] => &[PieceOf::Text("VAR stands before the name of the parameter: VAR x: INTEGER")];
     [Here(&[Kind::RightParen]), Last(&[Kind::Semicolon]), Could(&[Kind::Var])] => &[PieceOf::Text("no ; stands before the ) of a heading")];
+    [
+        Here(&[Kind::Begin, Kind::Const, Kind::Type, Kind::Procedure, Kind::End]),
+        Last(&[Kind::Semicolon]),
+        Is(Fact::InParens),
+        Could(&[Kind::Var])
+    ] => &[PieceOf::Text("is a ) missing before the ; of the heading?")];
     [Here(&[Kind::LeftParen]), Last(&[Kind::Procedure])] =>
         &[PieceOf::Text("there are no methods; a record is handed over by a VAR parameter: PROCEDURE P(VAR r: R)")];
     [Here(&[Kind::LeftParen]), Last(&[Kind::Record])] => &[PieceOf::Text("no record extends another one; it has its own fields alone")];
@@ -265,6 +294,7 @@ pub const TYPE_TOKEN_ROWS: &[Row] = rows! {
 
 /// Tokens in declarations and behind them, and actuals without parentheses.
 pub const DECLARATION_ROWS: &[Row] = rows! {
+    [Here(&[Kind::Assign, Kind::LeftParen, Kind::LeftBracket, Kind::Dot]), Could(&[Kind::Colon]), Is(Fact::DeclaredBefore)] => NO_BEGIN;
     [Here(&[Kind::LeftBracket]), Could(&[Kind::Colon])] => ARRAY_TYPE;
     [Here(&[Kind::LeftBracket]), Last(&[Kind::Ident]), Second(&[Kind::Colon, Kind::Of])] => ARRAY_TYPE;
     [Here(&[Kind::LeftBracket, Kind::Of]), Last(&[Kind::Array])] => ARRAY_TYPE;
@@ -275,8 +305,11 @@ pub const DECLARATION_ROWS: &[Row] = rows! {
         &[PieceOf::Text("behind the name of a constant or of a type stands =")];
     [Here(&[Kind::Times]), Last(&[Kind::Procedure])] =>
         &[PieceOf::Text("the * of an export stands behind the name: PROCEDURE Get*")];
+    [Here(&[Kind::Times]), Next(&[Kind::LeftParen, Kind::Semicolon]), Could(&[Kind::Colon])] => NO_PROCEDURE;
+    [Here(&[Kind::Ident]), Next(&[Kind::Times]), Could(&[Kind::Procedure])] => NO_PROCEDURE;
     [Here(&[Kind::Times]), Could(&[Kind::Colon])] => NO_EXPORT;
     [Here(&[Kind::Times]), Could(&[Kind::Equal]), Never(&[Kind::Less])] => NO_EXPORT;
+    [Here(&[Kind::Semicolon]), Next(&[Kind::Ident]), Could(&[Kind::Colon])] => NO_LIST;
     [Here(&[Kind::Semicolon, Kind::RightParen, Kind::Array, Kind::Record]), Could(&[Kind::Colon])] => NO_TYPE;
     [Here(&[Kind::Ident, Kind::Array, Kind::Record]), Could(&[Kind::Of])] => ARRAY_TYPE;
     [Here(&[Kind::Ident]), Could(&[Kind::Colon]), Is(Fact::TypeBefore)] =>
@@ -291,6 +324,7 @@ pub const DECLARATION_ROWS: &[Row] = rows! {
         Could(&[Kind::Begin]),
         Next(&[Kind::Assign, Kind::LeftParen, Kind::LeftBracket, Kind::Dot])
     ] => NO_BEGIN;
+    [Here(&[Kind::Ident]), Could(&[Kind::Begin]), Next(&[Kind::Semicolon, Kind::End]), Not(Fact::Actual)] => NO_BEGIN;
     [Here(&[Kind::Const, Kind::Type, Kind::Var]), Could(&[Kind::Begin])] => ORDER;
     [Here(&[Kind::Const, Kind::Type, Kind::Var]), Could(&[Kind::While])] => ORDER;
     [Here(&[Kind::If, Kind::While, Kind::Repeat]), Could(&[Kind::Begin])] => NO_BEGIN;
@@ -303,8 +337,11 @@ pub const DECLARATION_ROWS: &[Row] = rows! {
     ] => ACTUALS;
 };
 
-/// Of a rule that is broken: a procedure in an expression, and operators on comparisons.
+/// Of a rule that is broken: a procedure in an expression, operators on comparisons, and parameters of exports.
 pub const RULE_ROWS: &[Row] = rows! {
+    [On(Number::C10), Not(Fact::InProcedure)] => &[PieceOf::Text(
+        "keep the array or record in a variable of the module, and hand over single values, as in PROCEDURE Set*(i, value: INTEGER)",
+    )];
     [
         On(Number::C3),
         Is(Fact::Procedure),

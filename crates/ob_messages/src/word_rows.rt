@@ -58,7 +58,7 @@ pub const BYTE_ROWS: &[Row] = rows! {
     [Sign("'")] => "there are no characters; a value is a number, TRUE or FALSE";
     [Sign("{")] => "there are no sets and no blocks in braces; statements stand between THEN, DO or BEGIN and END, and a comment is written (* .. *)";
     [Sign("!")] => "not equal is written #, and not is written ~";
-    [Sign("//")] => COMMENT;
+    [Sign("//")] => "a comment is written (* .. *), and a quotient with DIV";
     [Sign("/*")] => COMMENT;
     [Sign("/")] => "a quotient is written with DIV";
     [Sign("||")] => "or is written OR";
@@ -72,6 +72,31 @@ pub const BYTE_ROWS: &[Row] = rows! {
     [Sign("2147483648"), Is(Fact::BehindMinus)] => "the smallest INTEGER is written -2147483647 - 1";
 };
 
+/// The keywords. A name that is one but for small letters is meant to be it.
+const KEYWORDS: &[&str] = &[
+    "MODULE",
+    "CONST",
+    "TYPE",
+    "VAR",
+    "PROCEDURE",
+    "BEGIN",
+    "END",
+    "ARRAY",
+    "OF",
+    "RECORD",
+    "IF",
+    "THEN",
+    "ELSIF",
+    "ELSE",
+    "WHILE",
+    "DO",
+    "REPEAT",
+    "UNTIL",
+    "OR",
+    "DIV",
+    "MOD",
+];
+
 /// Words that other languages have.
 pub const WORD_ROWS: &[Row] = rows! {
     [Word(&["FOR"])] => NO_FOR;
@@ -80,7 +105,7 @@ pub const WORD_ROWS: &[Row] = rows! {
     [Word(&["IMPORT"])] => "there is no IMPORT; a module stands alone";
     [Word(&["EXIT"])] => "there is no EXIT; a loop ends by its condition";
     [Word(&["LOOP"])] => "there is no LOOP; use WHILE or REPEAT";
-    [Word(&["POINTER", "NIL", "NULL"])] => "there are no pointers";
+    [Word(&["POINTER", "NIL", "NULL"])] => NO_POINTER;
     [Word(&["AND"])] => "and is written &";
     [Word(&["NOT"])] => "not is written ~";
     [Word(&["ELSEIF", "ELIF"])] => "another case is written ELSIF";
@@ -93,7 +118,7 @@ pub const WORD_ROWS: &[Row] = rows! {
     [Word(&["FOREACH"])] => "there is no FOREACH; count in a WHILE or a REPEAT";
     [Word(&["SHL", "SHR"])] => NO_SHIFT;
     [Word(&["GOTO"])] => "there is no GOTO; use IF, WHILE, REPEAT or a call";
-    [Is(Fact::SmallKeyword)] => "keywords are written in capitals";
+    [Word(KEYWORDS)] => "keywords are written in capitals";
 };
 
 /// Words that other languages have, where it is the tokens around them that tell.
@@ -124,6 +149,8 @@ pub const PLACED_WORD_ROWS: &[Row] = rows! {
 /// Names that other languages have.
 pub const NAME_ROWS: &[Row] = rows! {
     [Is(Fact::FurtherDown)] => "this name is declared further down; it is known only behind its declaration";
+    [Is(Fact::OwnType)] =>
+        "no type has a part of its own type, and there are no pointers; write an array of records, and an index in place of a pointer";
     [Is(Fact::Field)] => "a field has this name, and a field is written behind its record, as r.f";
     [Is(Fact::Elsewhere)] => "a procedure before has a variable of this name, which is known only in that procedure";
     [Word(&["INC"])] => "there is no INC; write x := x + 1";

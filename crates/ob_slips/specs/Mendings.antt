@@ -9,6 +9,7 @@ use Rattle.ob_slips.specs.declared.mending.Mending.{Mending}
 abbrev pub taken : Meant → ℕ
 taken Means.Semicolon = 0
 taken Means.Assign = 1
+taken Means.AssignForTwo = 2
 taken Means.OneEqual = 1
 taken Means.OneAnd = 1
 taken Means.Div = 1
@@ -27,6 +28,7 @@ taken Means.Letter = 1
 abbrev pub put : Meant → List ℕ
 put Means.Semicolon = codes ";"
 put Means.Assign = codes ":="
+put Means.AssignForTwo = codes ":="
 put Means.OneEqual = codes " "
 put Means.OneAnd = codes " "
 put Means.Div = codes " DIV "
@@ -44,6 +46,7 @@ put Means.Letter = codes "x"
 abbrev pub phrase : Meant → List ℕ
 phrase Means.Semicolon = codes "with a ; before it"
 phrase Means.Assign = codes "with := in its place"
+phrase Means.AssignForTwo = codes "with := in its place"
 phrase Means.OneEqual = codes "with one ="
 phrase Means.OneAnd = codes "with one &"
 phrase Means.Div = codes "with DIV in its place"

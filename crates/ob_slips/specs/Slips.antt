@@ -75,6 +75,7 @@ abbrev pub meant_for_token : (before from : List ℕ) → Option Meant
 meant_for_token before from =
     if ends (codes "=") before && begins (codes "=") from then Some Means.OneEqual
     else if ends (codes "&") before && begins (codes "&") from then Some Means.OneAnd
+    else if begins (codes "=:") from || begins (codes "==") from then Some Means.AssignForTwo
     else if begins (codes "=") from then Some Means.Assign
     else if begins (codes "<-") from then Some Means.Arrow
     else if not (is_none from) && behind_line_feed before && not (is_misspelt (word_at from)) then Some Means.Semicolon

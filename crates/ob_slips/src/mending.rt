@@ -11,8 +11,9 @@ use std::alloc::{AllocError, Global};
 pub enum Meant {
     /// A `;` that is missing there.
     Semicolon,
-    /// `:=`, where `=` stands.
+    /// `:=`, where `=` stands, and where `=:` or `==` does.
     Assign,
+    AssignForTwo,
     /// One `=`, and one `&`, where a second one stands.
     OneEqual,
     OneAnd,
@@ -111,6 +112,7 @@ fn taken(meant: Meant) -> usize
     match meant {
         Meant::Semicolon => 0,
         Meant::Assign => 1,
+        Meant::AssignForTwo => 2,
         Meant::OneEqual => 1,
         Meant::OneAnd => 1,
         Meant::Div => 1,
@@ -133,6 +135,7 @@ fn put(meant: Meant) -> &'static [u8]
     match meant {
         Meant::Semicolon => b";",
         Meant::Assign => b":=",
+        Meant::AssignForTwo => b":=",
         Meant::OneEqual => b" ",
         Meant::OneAnd => b" ",
         Meant::Div => b" DIV ",
@@ -155,6 +158,7 @@ pub fn phrase(meant: Meant) -> &'static str
     match meant {
         Meant::Semicolon => "with a ; before it",
         Meant::Assign => "with := in its place",
+        Meant::AssignForTwo => "with := in its place",
         Meant::OneEqual => "with one =",
         Meant::OneAnd => "with one &",
         Meant::Div => "with DIV in its place",

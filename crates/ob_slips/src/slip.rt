@@ -91,6 +91,8 @@ fn meant_for_token(before: &[u8], from: &[u8]) -> Option<Meant>
         Some(Meant::OneEqual)
     } else if before.ends_with(b"&") && from.starts_with(b"&") {
         Some(Meant::OneAnd)
+    } else if from.starts_with(b"=:") || from.starts_with(b"==") {
+        Some(Meant::AssignForTwo)
     } else if from.starts_with(b"=") {
         Some(Meant::Assign)
     } else if from.starts_with(b"<-") {

@@ -7,7 +7,7 @@ told-requires c = record {
   field = c.is_field.result;
   elsewhere = c.is_elsewhere.result;
   number_type = c.is_number_type.result;
-  small_keyword = c.is_small_keyword.result;
+  own_type = c.is_own_type.result;
   name = rw (c.bytes_of.ensures, c.in_ok-near.ensures) refl;
   noted = rw (c.of_facts.ensures, c.deref.ensures.value, c.in_ok-facts.ensures, c.is_near.ensures, c.in_ok-near.ensures) refl;
 }

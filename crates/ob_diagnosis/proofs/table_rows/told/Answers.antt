@@ -11,4 +11,7 @@ told_by-requires-clause-sees c = record {
   next = c.kind_of-4.ensures ∙ ap (λ (t : Option Token). kind_of t) c.next.ensures;
   from = c.halves.ensures.behind;
   could = refl;
+  word = c.undeclared.ensures;
+  word_before = c.undeclared-2.ensures;
+  called = c.undeclared-3.ensures;
 }

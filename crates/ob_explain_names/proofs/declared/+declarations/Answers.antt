@@ -1,10 +1,10 @@
-use Rattle.std.proofs.Common.{◌≡◌, ◌∷◌, [], ◌++◌, nat_lt, true, false, map, option_map, refl, sym, ◌∙◌, ap, rules, tests}
+use Rattle.std.proofs.Common.{◌≡◌, ◌∷◌, [], ◌++◌, nat_lt, false, map, option_map, refl, sym, ◌∙◌, ap, rules, tests}
 use Rattle.std.proofs.lemmas.Result.{on_ok_weaker}
 use Rattle.ob_grammar.specs.declared.tree.Declarations.TheViews.{out-Declarations, out-Procedure}
 use Rattle.ob_grammar.specs.View.{constants_of, types_of, variables_of, declarations_of, heading_of, section_of, procedures_in}
 use Rattle.ob_grammar.proofs.Rows.{declarations_of-parts}
 use Rattle.ob_explain_names.specs.Known.{known_constants, known_types, known_variables, known_parameters, known_heading, known_in, known_procedures}
-use Rattle.ob_explain_names.proofs.Added.{adds_all, adds_both, kept, left_out, loop_added, loop_adds, procedure_first}
+use Rattle.ob_explain_names.proofs.Added.{adds_all, adds_both, kept, loop_added, loop_adds, procedure_first}
 use Rattle.ob_explain_names.proofs.declared.+declarations.Goals as goal
 
 pub push_declarations-returns : goal.push_declarations-returns

@@ -1,6 +1,6 @@
-use Rattle.std.proofs.Common.{◌≡◌, ◌∷◌, [], ◌++◌, refl, arith}
+use Rattle.std.proofs.Common.{◌≡◌, ◌++◌, refl, arith}
 use Rattle.std.proofs.lemmas.Grind.{common_steps}
-use Rattle.ob_explain_names.proofs.Added.{added, adds_all, loop_added, loop_adds, names_left, sections_left}
+use Rattle.ob_explain_names.proofs.Added.{adds_all, loop_added, loop_adds, names_left, sections_left}
 use Rattle.ob_explain_names.proofs.declared.push_parameters.Goals as goal
 
 pub loop-section-init : goal.loop-section-init

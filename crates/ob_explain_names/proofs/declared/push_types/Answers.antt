@@ -3,7 +3,7 @@ use Rattle.std.proofs.lemmas.Grind.{common_steps}
 use Rattle.ob_grammar.specs.View.{name_of}
 use Rattle.ob_explain_names.specs.declared.known.Sort.TheVariants.{TypeName}
 use Rattle.ob_explain_names.specs.Known.{known_as}
-use Rattle.ob_explain_names.proofs.Added.{added, adds_all, loop_added, loop_adds, types_left}
+use Rattle.ob_explain_names.proofs.Added.{adds_all, loop_added, loop_adds, types_left}
 use Rattle.ob_explain_names.proofs.declared.push_types.Goals as goal
 
 pub loop-declaration-init : goal.loop-declaration-init

@@ -3,7 +3,7 @@ use Rattle.std.proofs.lemmas.Grind.{common_steps}
 use Rattle.ob_grammar.specs.View.{name_of}
 use Rattle.ob_explain_names.specs.declared.known.Sort.TheVariants.{Variable}
 use Rattle.ob_explain_names.specs.Known.{known_as}
-use Rattle.ob_explain_names.proofs.Added.{added, adds_all, loop_added, loop_adds, names_left}
+use Rattle.ob_explain_names.proofs.Added.{adds_all, loop_added, loop_adds, names_left}
 use Rattle.ob_explain_names.proofs.declared.push_variable_names.Goals as goal
 
 pub loop-name-init : goal.loop-name-init

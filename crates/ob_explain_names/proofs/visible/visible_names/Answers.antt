@@ -1,4 +1,4 @@
-use Rattle.std.proofs.Common.{◌≡◌, List, sym, subst, ap, ◌∙◌}
+use Rattle.std.proofs.Common.{List, sym, subst, ap, ◌∙◌}
 use Rattle.std.proofs.lemmas.Result.{IfOk-weaker}
 use Rattle.ob_grammar.specs.declared.tree.ModuleTree.{ModuleTree}
 use Rattle.ob_grammar.specs.View.{declarations_of, module_of}
