@@ -1,5 +1,5 @@
 -- A carried state is one of the module's states by position: each variable has a value of its type.
-use Rattle.std.proofs.Common.{◌≡◌, ℕ, zero, suc, List, [], ◌∷◌, map, subst}
+use Rattle.std.proofs.Common.{ℕ, zero, suc, List, [], ◌∷◌, map, subst}
 use Rattle.ob_meaning.specs.Resolved.{IsResolved, as_parameter, module_scope}
 use Rattle.ob_meaning.specs.Same.{SameActivation, SameElements, SameFields, SameHeld, SameState, SameValue, Scopes}
 use Rattle.ob_carry.proofs.Carried.{carried_values}
