@@ -1,5 +1,5 @@
 -- A path to a configuration that is done, changed so that it begins with another call.
-use Rattle.std.proofs.Common.{◌≡◌, refl, sym, ap, ◌∙◌, subst, ℕ, ◌+◌, ◌<◌, zero, suc, List, [], ◌∷◌, length, get_or, set, Some, arith, inl, inr, length-set, get_or-set_same, get_or-set_other}
+use Rattle.std.proofs.Common.{◌≡◌, refl, sym, ap, ◌∙◌, subst, ℕ, ◌+◌, ◌<◌, ◌≤◌, zero, suc, List, [], ◌∷◌, length, get_or, set, Some, arith, inl, inr, length-set, get_or-set_same, get_or-set_other}
 use Rattle.std.proofs.lemmas.Bool.{cases_eq}
 use Rattle.std.specs.List.{slice_get, Contains}
 use Rattle.wf_history.specs.declared.event.CallId.{CallId}
@@ -8,7 +8,7 @@ use Rattle.wf_history.specs.Legal.{HasBegun}
 use Rattle.wf_history.proofs.Positions.{same_call, contains_at, split_twice, places_of_split}
 use Rattle.wf_history.proofs.Once.{one_call}
 use Rattle.wf_order.specs.Steps.{Configuration, IsTaken, IsStep, Leads, none, more, IsDone}
-use Rattle.wf_order.specs.Rules.{EndsFirst, ComesFirst, ends, open_ones, IsIdle, IsOpen, IsSilent}
+use Rattle.wf_order.specs.Rules.{EndsFirst, ComesFirst, ends, open_ones, IsIdle, IsOpen, IsReading, IsSilent, Passes, none_passed, one_passed}
 use Rattle.wf_order.proofs.Completeness.{before_own, ends_before}
 use Rattle.wf_order.proofs.Lists.{same_configuration}
 use Rattle.wf_order.proofs.Soundness.{taken_more, taken_not, taken_back}
@@ -95,6 +95,69 @@ module _ {State Call Reply : Type 0} (Effect : Call → State → State → Repl
         let effect : Effect t.call c.state d.state quiet.reply = subst (λ (r : Reply). Effect t.call c.state d.state r) (sym (t.agrees quiet.reply quiet.ended)) t.effect in
         let there : d ≡ record { counts = set c.counts s.process s.number; state = c.state } = same_configuration t.counts (sym (quiet.leaves t.call c.state d.state t.begun effect)) in
         subst (λ (x : Configuration State). IsHopeful n x) (sym there) (subst (λ (m : ℕ). IsHopeful m (record { counts = set c.counts s.process s.number; state = c.state })) same r.2)
+
+  -- a call that only reads comes first, if it comes at all
+  module _ (s : CallId) (reads : IsReading Effect history s) where
+    reading_moved : {c e : Configuration State} {ids : List CallId} → Leads Effect history c ids e → IsDone Effect history e → IsNext c.counts s →
+        (n : ℕ) × (n ≤ length ids) × IsHopeful n (record { counts = set c.counts s.process s.number; state = c.state })
+    reading_moved (none {c}) done next = (
+      0,
+      omega arith,
+      record {
+        ids = [];
+        last = record { counts = set c.counts s.process s.number; state = c.state };
+        path = none;
+        done = λ id reply ended. taken_more c.counts s next.process next.number id (done id reply ended);
+        size = refl;
+      },
+    )
+    reading_moved (more {c} {d} {e} {id} {ids} t l) done next =
+        elim (cases_eq s.process id.process) [
+          | inl own ↦
+              let same = next_is c.counts s id own next t.number in
+              let leaves = reads t.call c.state d.state t.reply (subst (λ (i : CallId). HasBegun history i t.call) same t.begun) t.effect in
+              let there : d ≡ record { counts = set c.counts s.process s.number; state = c.state } =
+              same_configuration (t.counts ∙ ap (λ (i : CallId). set c.counts i.process i.number) same) (sym leaves) in
+              (length ids, omega arith, subst (λ (x : Configuration State). IsHopeful (length ids) x) there (record { ids = ids; last = e; path = l; done = done; size = refl }))
+          | inr ne ↦
+              let later = next_kept c.counts s id ne next in
+              let r = reading_moved l done (subst (λ (xs : List ℕ). IsNext xs s) (sym t.counts) later) in
+              let size = length-set c.counts s.process s.number in
+              let process = t.process in
+              let le = r.1 in
+              let step : IsStep Effect history (record { counts = set c.counts s.process s.number; state = c.state }) id (record { counts = set d.counts s.process s.number; state = d.state }) =
+              record {
+                call = t.call;
+                begun = t.begun;
+                process = omega (arith, size, process);
+                number = t.number ∙ ap (λ (n : ℕ). n + 1) (sym (get_or-set_other c.counts s.process id.process s.number 0 (λ e. ne (sym e))));
+                earlier = λ a bef. taken_more c.counts s next.process next.number a (t.earlier a bef);
+                reply = t.reply;
+                effect = t.effect;
+                agrees = t.agrees;
+                counts = ap (λ (xs : List ℕ). set xs s.process s.number) t.counts ∙ set_swap c.counts id.process s.process id.number s.number (λ e. ne (sym e));
+              } in
+              (suc r.0, omega (arith, le), hope_more r.0 _ _ id step r.2)
+        ]
+
+    -- Law: of a configuration from which steps lead to one that is done, that goes on after a call that only reads, too.
+    pub reading_first : (n : ℕ) (c d : Configuration State) → IsHopeful n c → IsStep Effect history c s d → (m : ℕ) × (m ≤ n) × IsHopeful m d
+    reading_first n c d h t =
+        let r = reading_moved h.path h.done (record { process = t.process; number = t.number }) in
+        let size = h.size in
+        let le = r.1 in
+        let there : d ≡ record { counts = set c.counts s.process s.number; state = c.state } = same_configuration t.counts (sym (reads t.call c.state d.state t.reply t.begun t.effect)) in
+        (r.0, omega (arith, size, le), subst (λ (x : Configuration State). IsHopeful r.0 x) (sym there) r.2)
+
+  -- Law: and after some of them, too.
+  pub passes_first : (n : ℕ) {c d : Configuration State} {ids : List CallId} → Passes Effect history c ids d → IsHopeful n c → (m : ℕ) × (m ≤ n) × IsHopeful m d
+  passes_first n none_passed h = (n, omega arith, h)
+  passes_first n (one_passed {c} {d} {e} {id} {ids} t reads l) h =
+      let first = reading_first id reads n c d h t in
+      let rest = passes_first first.0 l first.2 in
+      let a = first.1 in
+      let b = rest.1 in
+      (rest.0, omega (arith, a, b), rest.2)
 
   -- what is after the later end of two is after the earlier one
   pub ends_sooner : (a b x : CallId) → EndsFirst history a b → Before history b x → Before history a x

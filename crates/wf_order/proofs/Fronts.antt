@@ -3,7 +3,7 @@ use Rattle.std.proofs.Common.{◌≡◌, refl, sym, ap, ◌∙◌, subst, ℕ, �
 use Rattle.std.proofs.lemmas.Bool.{cases_lt}
 use Rattle.std.proofs.lemmas.List.{length-take-le}
 use Rattle.std.proofs.lemmas.List.Elements.{Contains-append_left, Contains-push, Contains-push_cases}
-use Rattle.std.proofs.lemmas.Option.{slice_get-map}
+use Rattle.std.proofs.lemmas.Option.{slice_get-map, slice_get_within}
 use Rattle.std.specs.List.{slice_get, Contains}
 use Rattle.ob_interface.specs.Call.{ObjectCall, Reply}
 use Rattle.wf_history.specs.declared.event.CallId.{CallId}
@@ -17,7 +17,7 @@ use Rattle.wf_order.specs.declared.search.Frame.{Frame}
 use Rattle.wf_order.specs.declared.seen.Found.{Found}
 use Rattle.wf_order.specs.Fronts.{AreFramed, AreSized, EndsBefore, IsFarthest, IsFresh}
 use Rattle.wf_order.specs.Rows.{AreRows, call_at, ended_rows, row_of}
-use Rattle.wf_order.specs.Rules.{ComesFirst, ends, open_ones, IsAnswered, IsBehind, IsIdle, IsOpen, IsSilent}
+use Rattle.wf_order.specs.Rules.{ComesFirst, ends, open_ones, IsAnswered, IsBehind, IsIdle, IsMet, IsOpen, IsSilent, Passes, none_passed, one_passed}
 use Rattle.wf_order.specs.Search.{found_in, IsLed, IsSearch, IsWholeSearch}
 use Rattle.wf_order.specs.Steps.{Configuration, IsTaken, IsLimit, IsStep, Leads, none, more, start_at}
 use Rattle.wf_order.specs.Turns.{BeginsFrom}
@@ -73,6 +73,13 @@ module _ {State Call Reply : Type 0} (Effect : Call → State → State → Repl
         let rest = leads_front l undone in
         let here = not_before c d id s rest.1 in
         (more (step_front c d id s here) rest.0, here)
+
+    passes_front : {c e : Configuration State} {ids : List CallId} → Passes Effect history c ids e → ¬ IsTaken e.counts a → Passes Effect (take count history) c ids e × ¬ IsTaken c.counts a
+    passes_front none_passed undone = (none_passed, undone)
+    passes_front (one_passed {c} {d} {e} {id} {ids} s reads l) undone =
+        let rest = passes_front l undone in
+        let here = not_before c d id s rest.1 in
+        (one_passed (step_front c d id s here) (λ call before after reply begun effect. reads call before after reply (of_front (Begin id call) begun) effect) rest.0, here)
 
   -- where each end of its call is in the front, a step in the front is one
   module _ (c d : Configuration State) (id : CallId) (s : IsStep Effect (take count history) c id d) where
@@ -224,17 +231,23 @@ module _ {M : Type 0} (Effect : ObjectCall → M → M → Reply → Type 0) (hi
           ];
     }
 
+    -- calls that only read lead in the front where they lead among all events
+    met_front : (d : Configuration M) → IsMet Effect history found d → IsMet Effect (take count history) found d
+    met_front d met =
+        let u = undone met.1 met.3 in
+        (met.0, met.1, (passes_front Effect history are.whole count u.0 u.1 u.2 u.3 u.4 met.2 u.5).0, met.3)
+
     answered_front : (c d : Configuration M) (id : CallId) → Contains found c → EndsBefore rows c.counts count → IsStep Effect (take count history) c id d → IsAnswered Effect history found c id d → IsAnswered Effect (take count history) found c id d
     answered_front c d id in_found before s answered =
         elim answered [
-          | inl seen ↦ inl seen
+          | inl seen ↦ inl (met_front d seen)
           | inr rules ↦ elim rules [
             | inl forced ↦ inr (inl (record {
               id = forced.id;
               to = forced.to;
               step = to_front c forced.to forced.id in_found forced.step;
               silent = silent_front Effect history are.whole count forced.id (ends_early c forced.to forced.id history before forced.step) forced.silent;
-              there = forced.there;
+              there = met_front forced.to forced.there;
             }))
             | inr others ↦ inr (inr (elim others [
               | inl behind ↦ inl (behind_front c d id in_found before s behind)
@@ -267,7 +280,11 @@ module _ {M : Type 0} (Effect : ObjectCall → M → M → Reply → Type 0) (hi
       search_front = record {
         start_found = h.start_found;
         sizes = h.sizes;
-        led = λ k f at.
+        places = λ f in_frames.
+            let fresh = framed.fresh f in_frames in
+            let own = mapped_some counts_in (slice_get found f.place) fresh.counts (sym (slice_get-map counts_in found f.place) ∙ fresh.at) in
+            slice_get_within found f.place own.0 own.1;
+        led = λ k f at live.
             let in_frames = contains_at frames k f at in
             let fresh = framed.fresh f in_frames in
             let own = mapped_some counts_in (slice_get found f.place) fresh.counts (sym (slice_get-map counts_in found f.place) ∙ fresh.at) in

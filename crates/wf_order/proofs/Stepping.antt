@@ -15,6 +15,7 @@ use Rattle.wf_order.specs.declared.rows.Ended.{Ended}
 use Rattle.wf_order.specs.declared.rows.Rows.{Rows}
 use Rattle.wf_order.specs.Rows.{row_of, begun_rows, ended_rows, call_at, AreRows}
 use Rattle.wf_order.specs.Steps.{Configuration, IsLimit, IsStep, one_more}
+use Rattle.wf_order.specs.Rules.{IsReading}
 use Rattle.wf_order.specs.Search.{HasNoStep, IsNextStep, IsOnlyStep, IsSilentStep, IsOutcome}
 use Rattle.wf_order.proofs.Limits.{limit_earlier, limit_later}
 use Rattle.wf_order.proofs.Lists.{same_configuration}
@@ -136,6 +137,21 @@ module _ {M : Type 0} (Effect : ObjectCall → M → M → Reply → Type 0)
           let known = subst (λ (o : Option Ended). IfSome (option_map seen_reply (option_map (λ x. x.reply) o)) (λ r. r ≡ reply)) (sym there) (sym same) in
           silent_from e there leaves (call_at process k) (record { counts = set c.counts process (k + 1); state = after })
           (only_step after (set c.counts process (k + 1)) within inside refl (reply, effect, known))
+
+      -- a call that only reads is taken
+      pub reading_taken : (e : Ended) → slice_get (row_of (ended_rows rows) process) k ≡ Some e → ((before after : M) (reply : Reply) → Effect (seen_call b.call) before after reply → before ≡ after) →
+          process < length c.counts → b.place < limit → (after : M) → Effect (seen_call b.call) c.state after (seen_reply e.reply) →
+          IsStep Effect history c (call_at process k) (record { counts = set c.counts process (k + 1); state = c.state }) × IsReading Effect history (call_at process k)
+      reading_taken e there leaves within inside after effect =
+          let known = subst (λ (o : Option Ended). IfSome (option_map seen_reply (option_map (λ x. x.reply) o)) (λ r. r ≡ seen_reply e.reply)) (sym there) refl in
+          let kept : Effect (seen_call b.call) c.state c.state (seen_reply e.reply) =
+          subst (λ (s : M). Effect (seen_call b.call) c.state s (seen_reply e.reply)) (sym (leaves c.state after (seen_reply e.reply) effect)) effect in
+          let only = only_step c.state (set c.counts process (k + 1)) within inside refl (seen_reply e.reply, kept, known) in (
+            only.step,
+            λ call before other reply begun made.
+                let is_call : call ≡ seen_call b.call = one_call history are.whole (call_at process k) call (seen_call b.call) begun has_begun_here in
+                leaves before other reply (subst (λ (x : ObjectCall). Effect x before other reply) is_call made),
+          )
 
 -- where the next call leads to, as it is told
 module _ {M : Type 0} (Effect : ObjectCall → M → M → Reply → Type 0) (history : List (Event ObjectCall Reply)) (c : Configuration M) (process k : ℕ) (after : M) (id : CallId) (d : Configuration M)

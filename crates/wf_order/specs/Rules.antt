@@ -1,5 +1,5 @@
 -- Steps that a search need not try.
-use Rattle.std.specs.Prelude.{◌≡◌, ℕ, ◌+◌, ◌<◌, List, length, get_or, slice_get, Option, Some, IfSome, Contains, ◌⊎◌}
+use Rattle.std.specs.Prelude.{◌≡◌, ℕ, ◌+◌, ◌<◌, List, [], ◌∷◌, length, get_or, slice_get, Option, Some, IfSome, Contains, ◌⊎◌}
 use Rattle.wf_history.specs.declared.event.CallId.{CallId}
 use Rattle.wf_history.specs.History.{Event, End, Before}
 use Rattle.wf_history.specs.Legal.{HasBegun}
@@ -53,13 +53,26 @@ module _ {State Call Reply : Type 0} (Effect : Call → State → State → Repl
     pub ended : Contains history (End id reply)
     pub leaves : (call : Call) (before after : State) → HasBegun history id call → Effect call before after reply → before ≡ after
 
-  -- a silent call is next, and what it leads to was found
+  -- the call only reads: it leaves each state as it is, whatever its reply
+  abbrev pub IsReading : CallId → Type 0
+  IsReading id = (call : Call) (before after : State) (reply : Reply) → HasBegun history id call → Effect call before after reply → before ≡ after
+
+  -- steps of these calls, in order, which all only read
+  pub data Passes : Configuration State → List CallId → Configuration State → Type 0 where
+    none_passed : {c : Configuration State} → Passes c [] c
+    one_passed : {c d e : Configuration State} {id : CallId} {ids : List CallId} → IsStep Effect history c id d → IsReading id → Passes d ids e → Passes c (id ∷ ids) e
+
+  -- by calls that only read the configuration leads to one that was found
+  abbrev pub IsMet : List (Configuration State) → Configuration State → Type 0
+  IsMet found d = (ids : List CallId) × (to : Configuration State) × Passes d ids to × Contains found to
+
+  -- a silent call is next, and what it leads to was met
   pub record IsForced (found : List (Configuration State)) (c : Configuration State) : Type 0 where
     pub id : CallId
     pub to : Configuration State
     pub step : IsStep Effect history c id to
     pub silent : IsSilent id
-    pub there : Contains found to
+    pub there : IsMet found to
 
   -- another process's equal call, which comes first, may be taken as well
   pub record IsBehind (c : Configuration State) (id : CallId) : Type 0 where
@@ -88,7 +101,7 @@ module _ {State Call Reply : Type 0} (Effect : Call → State → State → Repl
 
   -- the step was tried, or need not be
   abbrev pub IsAnswered : List (Configuration State) → Configuration State → CallId → Configuration State → Type 0
-  IsAnswered found c id d = Contains found d ⊎ (IsForced found c ⊎ (IsBehind c id ⊎ IsIdle c id d))
+  IsAnswered found c id d = IsMet found d ⊎ (IsForced found c ⊎ (IsBehind c id ⊎ IsIdle c id d))
 
   -- An open call of the one process leads from the configuration to the state. What the other process may do next behind it leads to
   -- the same state without it, or does not end either, and leaves the state as it is.

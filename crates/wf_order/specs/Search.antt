@@ -21,7 +21,7 @@ use Rattle.wf_order.specs.declared.rows.Ended.{Ended}
 use Rattle.wf_order.specs.declared.rows.Rows.{Rows}
 use Rattle.wf_order.specs.declared.seen.Found as Rust
 use Rattle.wf_order.specs.Rows.{AreAt, AreRows, begun_rows, call_at, row_of}
-use Rattle.wf_order.specs.Rules.{IsAnswered, IsSilent}
+use Rattle.wf_order.specs.Rules.{IsAnswered, IsReading, IsSilent, Passes}
 use Rattle.wf_order.specs.Steps.{Configuration, IsLimit, IsStep, Leads, IsDone, one_more, start_at}
 use Rattle.wf_order.specs.Turns.{BeginsFrom, turns}
 use Rattle.wf_order.specs.Verdict.{HasLegal, HasMore}
@@ -85,6 +85,17 @@ pub record IsSilentCall {M : Type 0} (Effect : ObjectCall → M → M → Reply 
   pub at : AreAt rows process (get_or counts process 0) begun ended
   pub early : begun.place < limit
   pub leaves : (before after : M) → Effect (seen_call begun.call) before after (seen_reply ended.reply) → before ≡ after
+
+-- the process has a next call
+abbrev pub HasNext : Rows → List ℕ → ℕ → Type 0
+HasNext rows counts process = (process < length counts) × (get_or counts process 0 < length (row_of (begun_rows rows) process))
+
+-- the next call of the process, with its end, may be taken, and only reads
+pub record IsReadingCall {M : Type 0} (Effect : ObjectCall → M → M → Reply → Type 0) (rows : Rows) (counts : List ℕ) (limit process : ℕ) (begun : Begun) (ended : Ended) : Type 0 where
+  pub within : process < length counts
+  pub at : AreAt rows process (get_or counts process 0) begun ended
+  pub early : begun.place < limit
+  pub leaves : (before after : M) (reply : Reply) → Effect (seen_call begun.call) before after reply → before ≡ after
 
 module _ {State Call Reply : Type 0} (Effect : Call → State → State → Reply → Type 0) (history : List (Event Call Reply)) where
   -- no call of the process is next
@@ -157,12 +168,26 @@ module _ {State Call Reply : Type 0} (Effect : Call → State → State → Repl
   pub record IsSearch (processes : ℕ) (Led : List CallId → Configuration State → Type 0) (start : Configuration State) (found : List (Configuration State)) (stack : List Frame) : Type 0 where
     pub start_found : Contains found start
     pub sizes : (c : Configuration State) → Contains found c → length c.counts ≡ processes
-    pub led : (k : ℕ) (f : Frame) → slice_get stack k ≡ Some f →
+    pub places : (f : Frame) → Contains stack f → f.place < length found
+    -- of a frame that has something left to be tried
+    pub led : (k : ℕ) (f : Frame) → slice_get stack k ≡ Some f → f.next < length history →
         (c : Configuration State) × (slice_get found f.place ≡ Some c) × Led (ids_of (take k stack)) c × IsLimit history c.counts f.limit
     pub reached : (c : Configuration State) → Contains found c → (ids : List CallId) × Led ids c
     pub not_done : (c : Configuration State) → Contains found c → ¬ IsDone Effect history c
     pub next : (c d : Configuration State) (id : CallId) → Contains found c → IsStep Effect history c id d →
         IsAnswered Effect history found c id d ⊎ ((f : Frame) × Contains stack f × (slice_get found f.place ≡ Some c) × BeginsFrom history f.next id)
+
+  -- the next call of the process only reads, and may be taken
+  abbrev pub IsReadingNext : Configuration State → ℕ → Type 0
+  IsReadingNext c process = IsStep Effect history c (call_at process (get_or c.counts process 0)) (one_more c.counts process c.state) × IsReading Effect history (call_at process (get_or c.counts process 0))
+
+  -- Calls that only read lead from the first configuration to the second. A frame for each is on the stack, at this place, and has
+  -- nothing left to be tried.
+  pub record IsPassed (place : ℕ) (c d : Configuration State) (stack new : List Frame) : Type 0 where
+    pub frames : List Frame
+    pub pushed : new ≡ stack ++ frames
+    pub past : (f : Frame) → Contains frames f → (f.place ≡ place) × (length history ≤ f.next)
+    pub passes : Passes Effect history c (ids_of frames) d
 
   -- what an arrival at a configuration makes of what was found: a path, or nothing
   abbrev pub IsArrival : Configuration State → (found more : List (Configuration State)) → (stack new : List Frame) → Option (List CallId) → Type 0

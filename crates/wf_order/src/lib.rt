@@ -1,6 +1,6 @@
 //! A search for a legal order of a history, depth first over configurations: how many calls of each process are taken, and the state that
-//! they lead to. None is gone over twice. A call that leaves the state as it is comes first and alone, of equal calls only one is tried, and
-//! an open call not where all that may come behind it comes without it too.
+//! they lead to. None is gone over twice. A call that only reads is passed over, one that leaves the state as it is comes first and alone, of
+//! equal calls only one is tried, and an open call not where all that may come behind it comes without it too.
 //!
 //! An order that is found is then cut down to the open calls that it needs. And copies are made of the beginnings of a history.
 //!
@@ -17,6 +17,7 @@ mod listed;
 pub mod needed;
 pub mod object;
 pub mod opened;
+mod passing;
 pub mod processes;
 mod quiet;
 mod replay;

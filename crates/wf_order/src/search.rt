@@ -9,10 +9,11 @@ ghost use Rattle.wf_history.specs.View.{event_of};
 ghost use Rattle.wf_order.specs.declared.search.Answer.TheVariants as Answers;
 ghost use Rattle.wf_order.specs.Rows.{AreRows};
 ghost use Rattle.wf_order.specs.Search.{found_in, all_found, ids_of, AreWorded, IsWorded, IsArrival, IsGrown, IsSearch, IsAnswer, IsWholeSearch, IsLed, work};
-ghost use Rattle.wf_order.specs.Steps.{Configuration, IsDone, start_at};
+ghost use Rattle.wf_order.specs.Steps.{Configuration, IsDone, IsLimit, start_at};
 
 use crate::attempt::{Attempt, chosen};
 use crate::object::Object;
+use crate::passing::passed;
 use crate::rows::limit_of;
 use crate::seen::{Found, Seen};
 use crate::step::{Here, Task, one_more};
@@ -49,24 +50,25 @@ fn path_of(alloc: Global, stack: &[Frame]) -> Result<Vec<CallId>, NoMemory>
     Ok(stack.iter().map(|frame| frame.id).collect(alloc)?)
 }
 
-/// The last step leads to a configuration: the calls of the steps, where all that have ended are taken. Else the
+/// The last step leads to a configuration with this limit: the calls of the steps, where all that have ended are taken. Else the
 /// configuration is the next one to go on from, unless it was found before.
 fn arrive<O: Object>(
     task: &Task<O>,
     seen: &mut Seen<O::State>,
     stack: &mut Vec<Frame>,
     there: Found<O::State>,
+    limit: usize,
 ) -> Result<Option<Vec<CallId>>, NoMemory>
     requires worded { AreWorded O.meaning O.words_of seen.old }
     requires words { IsWorded O.meaning O.words_of there }
     ensures arrival { (history : List (Event ObjectCall Reply)) → AreRows history (length there.counts.items) task.now.rows.now
+        → IsLimit history there.counts.items limit
         → IfOk result (λ to. IsArrival (O.effect task.now.object.now) history (found_in O.meaning there)
         (all_found O.meaning seen.old) (all_found O.meaning seen.new) stack.old.items stack.new.items (option_map (λ path. path.items) to)) }
     ensures worded { IfOk result (λ to. AreWorded O.meaning O.words_of seen.new) }
     ensures one_more { IfOk result (λ to. index_set_len seen.new ≤ index_set_len seen.old + 1) }
     ensures grown { IfOk result (λ to. IsGrown seen.old.keys seen.new.keys) }
 {
-    let limit = limit_of(task.rows, &there.counts);
     if limit >= task.rows.events {
         return Ok(Some(path_of(task.alloc, stack)?));
     }
@@ -112,6 +114,10 @@ pub(crate) fn advance<O: Object>(
     ensures one_more { IfOk result (λ to. index_set_len seen.new ≤ index_set_len seen.old + 1) }
     ensures grown { IfOk result (λ to. IsGrown seen.old.keys seen.new.keys) }
 {
+    // The frame of a call that only reads, which was passed over.
+    if frame.next >= task.rows.events {
+        return Ok(None);
+    }
     let place = frame.place;
     let limit = frame.limit;
     let here = Here {
@@ -134,7 +140,8 @@ pub(crate) fn advance<O: Object>(
         id,
         limit,
     })?;
-    arrive(task, seen, stack, there)
+    let (there, limit) = passed(task, stack, place, there)?;
+    arrive(task, seen, stack, there, limit)
 }
 
 /// The configuration in which no call of so many processes is taken.
@@ -170,7 +177,8 @@ pub(crate) fn search<O: Object>(
 {
     let mut stack = Vec::new(task.alloc);
     let start = start_of(task, processes)?;
-    if let Some(order) = arrive(task, seen, &mut stack, start)? {
+    let limit = limit_of(task.rows, &start.counts);
+    if let Some(order) = arrive(task, seen, &mut stack, start, limit)? {
         return Ok(Answer::Order(order));
     }
     while let Some(frame) = stack.pop() {

@@ -225,6 +225,9 @@ pub(crate) fn any_silent_step<'a, O: Object>(
     ensures told { IfOk result (IsNever (O.effect task.now.object.now) (O.meaning here.now.found.now.state)) }
 {
     let mut made = None;
+    if !task.quiet.may_be_left(here.limit) {
+        return Ok(Silent::Never(None));
+    }
     for process in 0..here.found.counts.len() {
         if let Some((begun, end)) = silent_call(task, here, process) {
             let now = made_by(task, &here.found.state, begun.call, made.take())?;

@@ -1,16 +1,28 @@
 -- One try more.
-use Rattle.std.proofs.Common.{◌≡◌, sym, ap, subst, ◌∙◌, ◌<◌, ◌++◌, List, [], map, false, append_assoc}
-use Rattle.std.proofs.lemmas.List.{nil_from_length}
+use Rattle.std.proofs.Common.{◌≡◌, sym, ap, subst, ◌∙◌, ◌<◌, ◌++◌, List, [], map, false, append_assoc, arith}
+use Rattle.std.proofs.lemmas.List.{length-map, nil_from_length}
 use Rattle.std.proofs.lemmas.Option.{MatchOption-at_none, MatchOption-at_some}
 use Rattle.wf_history.specs.View.{event_of}
 use Rattle.wf_order.specs.declared.search.Frame.{Frame}
 use Rattle.wf_order.specs.declared.seen.Found.{Found}
-use Rattle.wf_order.specs.Search.{all_found, IsLed, IsSearch, work}
+use Rattle.wf_order.specs.Search.{all_found, found_in, IsLed, IsSearch, work}
 use Rattle.wf_order.specs.Steps.{start_at}
 use Rattle.wf_order.proofs.Completeness.{none_taken}
-use Rattle.wf_order.proofs.Searching.{none_legal}
+use Rattle.wf_order.proofs.Searching.{led_on, none_legal, top_within}
 use Rattle.wf_order.proofs.Soundness.{sound}
 use Rattle.wf_order.proofs.front.go_on.Goals as goal
+
+pub advance-requires-clause-place : goal.advance-requires-clause-place
+advance-requires-clause-place g c =
+    let effect = g.O.Object.effect c.args.task.now.object.now in
+    let history = map event_of c.args.task.now.events.now in
+    let view = found_in g.O.Object.meaning in
+    let start = start_at c.args.processes (g.O.Object.opening c.args.task.now.object.now) in
+    let found = all_found g.O.Object.meaning c.loop-frame.seen in
+    let h = subst (λ (l : List Frame). IsSearch effect history c.args.processes (IsLed effect history false start) start found l) c.in-Some.ensures.items c.loop-frame.invariant.search in
+    let within = top_within effect history c.args.processes (IsLed effect history false start) (led_on effect history false start) start found c.pop.new.self.items c.in-Some.frame h in
+    let size = length-map c.loop-frame.seen.keys view in
+    omega (arith, within, size)
 
 pub returns-in-Some-2-clause-found : goal.returns-in-Some-2-clause-found
 returns-in-Some-2-clause-found g c =

@@ -1,15 +1,26 @@
 -- One try, by what `chosen` and `arrive` say.
-use Rattle.std.proofs.Common.{sym, ap, refl, ◌∙◌, subst, option_map}
+use Rattle.std.proofs.Common.{sym, ap, refl, ◌∙◌, subst, ℕ, ◌<◌, false, length, option_map, arith}
 use Rattle.std.proofs.lemmas.Option.{MatchOption-at_none, MatchOption-at_some, slice_get-map}
 use Rattle.std.proofs.lemmas.Result.{IfOk-weaker}
 use Rattle.wf_history.proofs.Positions.{one_item}
 use Rattle.wf_order.specs.declared.search.Frame.{Frame}
+use Rattle.wf_order.specs.Rows.{AreRows}
 use Rattle.wf_order.specs.Rules.{IsAnswered}
 use Rattle.wf_order.specs.Search.{found_in, all_found, AreAllAnswered, IsChoice, IsLed}
 use Rattle.wf_order.specs.Steps.{Configuration, IsStep}
 use Rattle.wf_order.proofs.Arriving.{chosen_tried, top_at, step_rows, after_pop, concluded}
-use Rattle.wf_order.proofs.Searching.{led_on}
+use Rattle.wf_order.proofs.Searching.{led_on, passes_size, past_answered}
 use Rattle.wf_order.proofs.search.advance.Goals as goal
+
+pub returns-then-frame-task-clause-search : goal.returns-then-frame-task-clause-search
+returns-then-frame-task-clause-search g c = λ history processes exact start are h.
+    let effect = g.O.Object.effect c.args.task.now.object.now in
+    let found = all_found g.O.Object.meaning c.args.seen.now in
+    let frame = c.args.frame in
+    let events = are.events in
+    let past = c.if-frame-task.true in
+    after_pop effect history processes c.args.task.now.rows.now are (IsLed effect history exact start) (led_on effect history exact start) start found c.args.stack.now.items frame h
+    (λ x d id there s begins. past_answered effect history processes (IsLed effect history exact start) (led_on effect history exact start) start found frame (omega (arith, events, past)) x d id begins)
 
 pub returns-in_default-clause-search : goal.returns-in_default-clause-search
 returns-in_default-clause-search g c = λ history processes exact start are h.
@@ -20,7 +31,7 @@ returns-in_default-clause-search g c = λ history processes exact start are h.
     let frame = c.args.frame in
     let here = view c.index.result.now in
     let at = slice_get-map view c.args.seen.now.keys frame.place ∙ ap (option_map view) c.index.ensures in
-    let is_at = top_at effect history processes rows are (IsLed effect history exact start) (led_on effect history exact start) start found c.args.stack.now.items frame h here at in
+    let is_at = top_at effect history processes rows are (IsLed effect history exact start) (led_on effect history exact start) start found c.args.stack.now.items frame h here at (let events = are.events in let early = c.if-frame-task.false in omega (arith, events, early)) in
     let all = MatchOption-at_none (AreAllAnswered effect history found here frame.next)
     (λ a. IsChoice effect history rows found here frame.next frame.limit a.next a.process (g.O.Object.meaning a.state)) c.in_default.is (c.in_ok-attempt.ensures.chosen history found is_at) in
     after_pop effect history processes rows are (IsLed effect history exact start) (led_on effect history exact start) start found c.args.stack.now.items frame h
@@ -37,7 +48,10 @@ returns-clause-search g c = λ history processes exact start are h.
     let frame = c.args.frame in
     let here = view c.index.result.now in
     let at = slice_get-map view c.args.seen.now.keys frame.place ∙ ap (option_map view) c.index.ensures in
-    let is_at = top_at effect history processes rows are (IsLed effect history exact start) (led_on effect history exact start) start found c.args.stack.now.items frame h here at in
+    let events = are.events in
+    let early = c.if-frame-task.false in
+    let live : frame.next < length history = omega (arith, events, early) in
+    let is_at = top_at effect history processes rows are (IsLed effect history exact start) (led_on effect history exact start) start found c.args.stack.now.items frame h here at live in
     let attempt = c.in-Some.attempt in
     let after = g.O.Object.meaning attempt.state in
     let choice = MatchOption-at_some (AreAllAnswered effect history found here frame.next)
@@ -46,7 +60,12 @@ returns-clause-search g c = λ history processes exact start are h.
     let to = view c.in_ok-id.there in
     let t = chosen_tried effect history processes (IsLed effect history exact start) (led_on effect history exact start) start rows found here is_at.0 frame.limit is_at.1 frame.next attempt.next attempt.process after tried.id to
     c.in_ok-id.ensures.id c.in_ok-id.ensures.found choice in
+    let own_rows = step_rows effect history rows here to tried.id t.step is_at.0 in
+    let passes = c.in_ok-there.ensures.passed history own_rows in
+    let there = c.in_ok-there.there in
+    let size = passes_size effect history passes.passes in
+    let there_rows = subst (λ (n : ℕ). AreRows history n rows) (sym size) own_rows in
     IfOk-weaker c.arrive.result _ _
-    (λ o arrival. concluded effect history processes rows are (IsLed effect history exact start) (led_on effect history exact start) start found c.args.stack.now.items frame h here at tried refl refl t.fewer to t.step t.covers
-    (λ path. path.items) c.push.new.self.items (all_found g.O.Object.meaning c.arrive.new.seen) c.arrive.new.stack.items o c.in_ok-push.ensures.items arrival)
-    (c.arrive.ensures.arrival history (step_rows effect history rows here to tried.id t.step is_at.0))
+    (λ o arrival. concluded effect history processes rows are (IsLed effect history exact start) (led_on effect history exact start) start found c.args.stack.now.items frame h here at tried refl refl t.fewer live
+    (λ path. path.items) to (view there) c.push.new.self.items c.passed.new.stack.items (all_found g.O.Object.meaning c.arrive.new.seen) c.arrive.new.stack.items o t.step t.covers c.in_ok-push.ensures.items passes arrival)
+    (c.arrive.ensures.arrival history there_rows (c.in_ok-there.ensures.limit history own_rows))

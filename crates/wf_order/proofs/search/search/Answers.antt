@@ -1,20 +1,30 @@
 -- The search from its start to its end.
 use Rattle.std.proofs.Common.{◌≡◌, sym, ap, subst, ◌∙◌, ℕ, ◌+◌, ◌<◌, ◌≤◌, List, [], length, map, arith, true}
 use Rattle.std.proofs.lemmas.List.{length-map, nil_from_length}
-use Rattle.std.proofs.lemmas.Option.{MatchOption-at_none, MatchOption-at_some, slice_get_within}
+use Rattle.std.proofs.lemmas.Option.{MatchOption-at_none, MatchOption-at_some}
 use Rattle.std.specs.List.{Contains}
+use Rattle.ob_interface.specs.Call.{ObjectCall, Reply}
+use Rattle.wf_history.specs.History.{Event}
 use Rattle.wf_history.specs.View.{event_of}
 use Rattle.wf_history.proofs.Positions.{place_of}
 use Rattle.wf_order.specs.declared.search.Frame.{Frame}
+use Rattle.wf_order.specs.declared.rows.Rows.{Rows}
 use Rattle.wf_order.specs.declared.seen.Found.{Found}
+use Rattle.wf_order.specs.Rows.{AreRows}
 use Rattle.wf_order.specs.Search.{found_in, all_found, IsLed, IsSearch, try_cost, work}
-use Rattle.wf_order.specs.Steps.{start_at}
+use Rattle.wf_order.specs.Steps.{IsLimit, start_at}
 use Rattle.wf_order.proofs.Completeness.{none_taken}
 use Rattle.wf_order.proofs.Ending.{start_legal, start_search, start_rows, arrival_at, many}
 use Rattle.wf_order.proofs.Keeping.{found_apart, found_alike, found_eq}
-use Rattle.wf_order.proofs.Searching.{led_on, none_legal, top_led}
+use Rattle.wf_order.proofs.Searching.{led_on, none_legal, top_within}
 use Rattle.wf_order.proofs.Soundness.{sound}
 use Rattle.wf_order.proofs.search.search.Goals as goal
+
+-- the limit of the start, as it is found
+start_limit : (rows : Rows) (start counts : List ℕ) (limit : ℕ) → counts ≡ start → ((history : List (Event ObjectCall Reply)) → AreRows history (length counts) rows → IsLimit history counts limit) →
+    (history : List (Event ObjectCall Reply)) → AreRows history (length start) rows → IsLimit history start limit
+start_limit rows start counts limit e found history are =
+    subst (λ (xs : List ℕ). IsLimit history xs limit) e (found history (subst (λ (xs : List ℕ). AreRows history (length xs) rows) (sym e) are))
 
 pub arrive-requires-clause-worded : goal.arrive-requires-clause-worded
 arrive-requires-clause-worded g c = λ f there.
@@ -31,7 +41,7 @@ returns-in-Some-clause-answer g c =
     let rows = c.args.task.now.rows.now in
     let start = view c.in_ok-start.start in
     let are = start_rows history c.args.processes rows opening start c.in_ok-start.ensures.start c.requires.rows in
-    let a = arrival_at effect history _ _ _ _ (λ path. path.items) start (start_at c.args.processes opening) _ _ c.in_ok-start.ensures.start c.in-Some.is (c.in_ok-order.ensures.arrival history are) in
+    let a = arrival_at effect history _ _ _ _ (λ path. path.items) start (start_at c.args.processes opening) _ _ c.in_ok-start.ensures.start c.in-Some.is (c.in_ok-order.ensures.arrival history are (start_limit rows start.counts c.deref.result.now c.limit_of-limit.result c.deref.ensures c.limit_of-limit.ensures history are)) in
     let none = ap (map view) (nil_from_length c.args.seen.now.keys c.requires.empty) in
     (opening, start_legal effect history c.args.processes rows c.requires.rows opening (all_found g.O.Object.meaning c.args.seen.now) [] c.new-stack.result.items [] none c.new-stack.ensures.items c.in-Some.order.items a)
 
@@ -44,7 +54,7 @@ loop-frame-init g c =
     let rows = c.args.task.now.rows.now in
     let start = view c.in_ok-start.start in
     let are = start_rows history c.args.processes rows opening start c.in_ok-start.ensures.start c.requires.rows in
-    let a = arrival_at effect history _ _ _ _ (λ path. path.items) start (start_at c.args.processes opening) _ _ c.in_ok-start.ensures.start c.in_default.is (c.in_ok-order.ensures.arrival history are) in
+    let a = arrival_at effect history _ _ _ _ (λ path. path.items) start (start_at c.args.processes opening) _ _ c.in_ok-start.ensures.start c.in_default.is (c.in_ok-order.ensures.arrival history are (start_limit rows start.counts c.deref.result.now c.limit_of-limit.result c.deref.ensures c.limit_of-limit.ensures history are)) in
     let none = ap (map view) (nil_from_length c.args.seen.now.keys c.requires.empty) in
     let s = start_search effect history c.args.processes rows c.requires.rows opening (all_found g.O.Object.meaning c.args.seen.now) (all_found g.O.Object.meaning c.arrive.new.seen) c.new-stack.result.items c.arrive.new.stack.items none c.new-stack.ensures.items a in (
       s.0,
@@ -81,8 +91,7 @@ advance-requires-clause-place g c =
     let start = start_at c.args.processes (g.O.Object.opening c.args.task.now.object.now) in
     let found = all_found g.O.Object.meaning c.loop-frame.seen in
     let h = subst (λ (l : List Frame). IsSearch effect history c.args.processes (IsLed effect history true start) start found l) c.in-Some-pop.ensures.items c.loop-frame.invariant.0 in
-    let top = top_led effect history c.args.processes (IsLed effect history true start) (led_on effect history true start) start found c.pop.new.self.items c.in-Some-pop.frame h in
-    let within = slice_get_within found c.in-Some-pop.frame.place top.0 top.1 in
+    let within = top_within effect history c.args.processes (IsLed effect history true start) (led_on effect history true start) start found c.pop.new.self.items c.in-Some-pop.frame h in
     let size = length-map c.loop-frame.seen.keys view in
     omega (arith, within, size)
 

@@ -1,0 +1,29 @@
+-- What the rows hold of it.
+use Rattle.std.proofs.Common.{◌≡◌, ap, sym, subst, ◌∙◌, ℕ, ◌<◌, true, List, length, get_or, Some}
+use Rattle.std.specs.Prelude.{nat_lt, slice_get}
+use Rattle.std.proofs.lemmas.Bool.{ltb-true}
+use Rattle.std.proofs.lemmas.List.{get_or_read}
+use Rattle.wf_order.specs.Rows.{begun_rows, ended_rows, row_of}
+use Rattle.wf_order.proofs.passing.reading_call.Goals as goal
+
+taken_is : (xs ys : List ℕ) (p x : ℕ) → true ≡ nat_lt p (length xs) → x ≡ get_or xs p x → xs ≡ ys → x ≡ get_or ys p 0
+taken_is xs ys p x t h e = get_or_read xs p x (ltb-true p (length xs) (sym t)) h 0 ∙ ap (λ (l : List ℕ). get_or l p 0) e
+
+within_is : (xs ys : List ℕ) (p : ℕ) → true ≡ nat_lt p (length xs) → xs ≡ ys → p < length ys
+within_is xs ys p t e = subst (λ (l : List ℕ). p < length l) e (ltb-true p (length xs) (sym t))
+
+pub returns : goal.returns
+returns g c =
+    let process = c.args.process in
+    let rows = c.args.task.now.rows.now in
+    let counts = c.args.here.now.found.now.counts.items in
+    let is = taken_is c.deref.result.now counts process c.in_ok-place.field-0.now c.in_ok-place.ensures.lookup.0 c.in_ok-place.ensures.lookup.1 c.deref.ensures in
+    record {
+      within = within_is c.deref.result.now counts process c.in_ok-place.ensures.lookup.0 c.deref.ensures;
+      at = (
+        subst (λ (k : ℕ). slice_get (row_of (begun_rows rows) process) k ≡ Some c.in_ok-begun.begun) is (sym c.begun_at.ensures.item ∙ c.in_ok-begun.was),
+        subst (λ (k : ℕ). slice_get (row_of (ended_rows rows) process) k ≡ Some c.in_ok-end.end) is (sym c.ended_at.ensures ∙ c.in_ok-end.was),
+      );
+      early = c.if-begun-limit.false;
+      leaves = c.is_reader.ensures c.if-not-is_reader.false;
+    }

@@ -1,0 +1,167 @@
+//! Calls that only read, passed over: such a call comes as soon as it may be taken with its reply, and what lies before it is not kept.
+
+ghost use Rattle.std.specs.Prelude.{◌≡◌, ◌<◌, ◌+◌, List, length, get_or, IfOk, IfSome, IsTrue, OnOk, slice_set};
+ghost use Rattle.smallvec.specs.SmallVec.{small_vec_len};
+ghost use Rattle.ob_interface.specs.Call.{ObjectCall, Reply};
+ghost use Rattle.wf_history.specs.History.{Event};
+ghost use Rattle.wf_history.specs.View.{seen_call, seen_reply};
+ghost use Rattle.wf_order.specs.Rows.{AreRows};
+ghost use Rattle.wf_order.specs.Search.{found_in, HasNext, IsAt, IsPassed, IsReadingCall, IsReadingNext, IsTold, IsWorded};
+ghost use Rattle.wf_order.specs.Steps.{IsLimit};
+
+use crate::object::Object;
+use crate::replies::{is_same_call, is_same_reply};
+use crate::rows::{Begun, Ended, limit_of};
+use crate::search::Frame;
+use crate::seen::{Counts, Found};
+use crate::step::{Here, Task, Told};
+use ob_interface::NoMemory;
+use wf_history::{CallId, SeenCall, SeenReply};
+
+/// The next call of a process, and its end, where it only reads and may be taken.
+fn reading_call<'a, O: Object>(
+    task: &Task<'_, 'a, O>,
+    here: &Here<O::State>,
+    process: usize,
+) -> Option<(Begun<'a>, Ended<'a>)>
+    ensures { IfSome result (λ call. IsReadingCall (O.effect task.now.object.now) task.now.rows.now here.now.found.now.counts.items here.now.limit process call.0 call.1) }
+{
+    let limit = here.limit;
+    let place = *here.found.counts.get(process)? as usize;
+    if !task.quiet.has(process, place) {
+        return None;
+    }
+    let end = task.rows.ended_at(process, place)?;
+    let begun = task.rows.begun_at(process, place)?;
+    if begun.place >= limit {
+        return None;
+    }
+    if !task.object.is_reader(begun.call) {
+        return None;
+    }
+    Some((begun, end))
+}
+
+/// Whether a call has this reply in a state. What it replies is noted, so that no equal one is made there again.
+fn replies_so<'a, O: Object>(
+    task: &Task<'_, 'a, O>,
+    state: &O::State,
+    call: SeenCall<'a>,
+    reply: SeenReply,
+    told: &mut Option<Told<'a>>,
+) -> Result<bool, NoMemory>
+    requires { IfSome told.old (IsTold (O.effect task.now.object.now) (O.meaning state.now)) }
+    ensures told { OnOk result (IfSome told.new (IsTold (O.effect task.now.object.now) (O.meaning state.now))) }
+    ensures replies { IfOk result (λ so. IsTrue so
+        → (after : O.Meaning) × O.effect task.now.object.now (seen_call call.entry) (O.meaning state.now) after (seen_reply reply.entry)) }
+{
+    if let Some(made) = told {
+        if is_same_call(made.call, call) {
+            return Ok(is_same_reply(&made.reply, reply));
+        }
+    }
+    let (_after, answer) = task.object.apply(task.alloc, state, call)?;
+    let so = is_same_reply(&answer, reply);
+    *told = Some(Told {
+        call,
+        reply: answer,
+    });
+    Ok(so)
+}
+
+/// Whether the next call of a process only reads, and may be taken with its reply.
+fn reads_here<'a, O: Object>(
+    task: &Task<'_, 'a, O>,
+    here: &Here<O::State>,
+    process: usize,
+    told: &mut Option<Told<'a>>,
+) -> Result<bool, NoMemory>
+    requires { IfSome told.old (IsTold (O.effect task.now.object.now) (O.meaning here.now.found.now.state)) }
+    ensures told { OnOk result (IfSome told.new (IsTold (O.effect task.now.object.now) (O.meaning here.now.found.now.state))) }
+    ensures next { IfOk result (λ reads. IsTrue reads → HasNext task.now.rows.now here.now.found.now.counts.items process) }
+    ensures reads { (history : List (Event ObjectCall Reply)) → IsAt history task.now.rows.now here.now
+        → IfOk result (λ reads. IsTrue reads → IsReadingNext (O.effect task.now.object.now) history (found_in O.meaning here.now.found.now) process) }
+{
+    let Some((begun, end)) = reading_call(task, here, process) else {
+        return Ok(false);
+    };
+    let reads = replies_so(task, &here.found.state, begun.call, end.reply, told)?;
+    Ok(reads)
+}
+
+/// The process whose next call only reads, and may be taken with its reply.
+fn reader_at<'a, O: Object>(
+    task: &Task<'_, 'a, O>,
+    here: &Here<O::State>,
+    told: &mut Option<Told<'a>>,
+) -> Result<Option<usize>, NoMemory>
+    requires { IfSome told.old (IsTold (O.effect task.now.object.now) (O.meaning here.now.found.now.state)) }
+    ensures told { OnOk result (IfSome told.new (IsTold (O.effect task.now.object.now) (O.meaning here.now.found.now.state))) }
+    ensures next { IfOk result (λ o. IfSome o (HasNext task.now.rows.now here.now.found.now.counts.items)) }
+    ensures reads { (history : List (Event ObjectCall Reply)) → IsAt history task.now.rows.now here.now
+        → IfOk result (λ o. IfSome o (IsReadingNext (O.effect task.now.object.now) history (found_in O.meaning here.now.found.now))) }
+{
+    for process in 0..here.found.counts.len() {
+        if reads_here(task, here, process, told)? {
+            return Ok(Some(process));
+        }
+    }
+    Ok(None)
+}
+
+/// Takes the next call of a process, and gives its number.
+fn take_next(counts: &mut Counts, process: usize) -> Result<u32, NoMemory>
+    requires { process < small_vec_len counts.old }
+    ensures number { IfOk result (λ number. number ≡ get_or counts.old.items process 0 + 1) }
+    ensures counts { OnOk result (counts.new.items ≡ slice_set counts.old.items process (get_or counts.old.items process 0 + 1)) }
+{
+    let Some(number) = counts[process].checked_add(1) else {
+        return Err(NoMemory);
+    };
+    if let Some(count) = counts.get_mut(process) {
+        *count = number;
+    }
+    Ok(number)
+}
+
+/// A configuration, moved on by all calls that only read and may be taken with their replies, and its limit. For each of them there is
+/// a frame on the stack, from which nothing is to be tried.
+pub(crate) fn passed<O: Object>(
+    task: &Task<O>,
+    stack: &mut Vec<Frame>,
+    place: usize,
+    found: Found<O::State>,
+) -> Result<(Found<O::State>, usize), NoMemory>
+    requires { IsWorded O.meaning O.words_of found }
+    ensures passed { (history : List (Event ObjectCall Reply)) → AreRows history (length found.counts.items) task.now.rows.now
+        → IfOk result (λ to. IsPassed (O.effect task.now.object.now) history place (found_in O.meaning found) (found_in O.meaning to.0) stack.old.items stack.new.items) }
+    ensures limit { (history : List (Event ObjectCall Reply)) → AreRows history (length found.counts.items) task.now.rows.now
+        → IfOk result (λ to. IsLimit history to.0.counts.items to.1) }
+    ensures worded { IfOk result (λ to. IsWorded O.meaning O.words_of to.0) }
+{
+    let mut there = found;
+    let mut told = None;
+    let mut limit = limit_of(task.rows, &there.counts);
+    while let Some(process) = reader_at(
+        task,
+        &Here {
+            found: &there,
+            limit,
+        },
+        &mut told,
+    )? {
+        let number = take_next(&mut there.counts, process)?;
+        let id = CallId {
+            process,
+            number: number as u64,
+        };
+        stack.push(Frame {
+            place,
+            next: task.rows.events,
+            id,
+            limit,
+        })?;
+        limit = limit_of(task.rows, &there.counts);
+    }
+    Ok((there, limit))
+}
