@@ -179,7 +179,9 @@ module _ {State Call Reply : Type 0} (Effect : Call → State → State → Repl
 
   -- the next call of the process only reads, and may be taken
   abbrev pub IsReadingNext : Configuration State → ℕ → Type 0
-  IsReadingNext c process = IsStep Effect history c (call_at process (get_or c.counts process 0)) (one_more c.counts process c.state) × IsReading Effect history (call_at process (get_or c.counts process 0))
+  IsReadingNext c process =
+      IsStep Effect history c (call_at process (get_or c.counts process 0)) (one_more c.counts process c.state)
+      × IsReading Effect history (call_at process (get_or c.counts process 0))
 
   -- Calls that only read lead from the first configuration to the second. A frame for each is on the stack, at this place, and has
   -- nothing left to be tried.

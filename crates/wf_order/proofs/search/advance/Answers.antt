@@ -1,5 +1,5 @@
 -- One try, by what `chosen` and `arrive` say.
-use Rattle.std.proofs.Common.{sym, ap, refl, ◌∙◌, subst, ℕ, ◌<◌, false, length, option_map, arith}
+use Rattle.std.proofs.Common.{sym, ap, refl, ◌∙◌, subst, ℕ, ◌<◌, length, option_map, arith}
 use Rattle.std.proofs.lemmas.Option.{MatchOption-at_none, MatchOption-at_some, slice_get-map}
 use Rattle.std.proofs.lemmas.Result.{IfOk-weaker}
 use Rattle.wf_history.proofs.Positions.{one_item}
