@@ -14,6 +14,6 @@ returns c =
       remark = option_map remark_of c.in_ok-remark.remark;
       remarked = c.in_ok-remark.ensures;
       is =
-        pushed c.as_str.result.now told c.in_ok-push_str-2.was c.push_str-2.ensures.bytes
-        ∙ ap (λ (ws : List ℕ). phrase c.args.last.meant ++ codes ", the next fault is:\n" ++ ws) shown;
+          pushed c.as_str.result.now told c.in_ok-push_str-2.was c.push_str-2.ensures.bytes
+          ∙ ap (λ (ws : List ℕ). phrase c.args.last.meant ++ codes ", the next fault is:\n" ++ ws) shown;
     }
