@@ -4,7 +4,8 @@
 ghost use Rattle.std.specs.Prelude.{◌≡◌, [], ◌∷◌, ◌++◌, map, option_map, string_bytes, if◌then◌else◌, IfOk, OnOk};
 ghost use Rattle.ob_scan.specs.declared.token.Kind.{Kind};
 ghost use Rattle.ob_grammar.specs.View.{name_of, section_of, heading_of, constants_of, types_of, variables_of, declarations_of, procedures_in, module_of};
-ghost use Rattle.ob_syntax.specs.Printing.{ident, name_words, spaced, section_words, heading_words, perhaps, parameter_words, part_words, const_words, type_decl_words, var_decl_words, declaration_words, procedure_words, printed};
+ghost use Rattle.ob_syntax.specs.Printing.{ident, name_words, spaced, section_words, heading_words, perhaps};
+ghost use Rattle.ob_syntax.specs.Printing.{parameter_words, part_words, const_words, type_decl_words, var_decl_words, declaration_words, procedure_words, printed};
 ghost use Rattle.ob_syntax.specs.PrintedAgain.{LeadsTo};
 
 mod expressions;

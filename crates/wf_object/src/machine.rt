@@ -1,6 +1,7 @@
 //! The step machine.
 
-ghost use Rattle.std.specs.Prelude.{true, false, ◌≡◌, ◌+◌, ◌*◌, ◌<◌, ◌≤◌, ◌⊎◌, ◌↔◌, [], ◌++◌, ◌∷◌, List, Contains, replicate, IfOk, OnOk, OnErr, length, slice_get, Some};
+ghost use Rattle.std.specs.Prelude.{true, false, ◌≡◌, ◌+◌, ◌*◌, ◌<◌, ◌≤◌, ◌⊎◌, ◌↔◌, [], ◌++◌, ◌∷◌};
+ghost use Rattle.std.specs.Prelude.{List, Contains, replicate, IfOk, OnOk, OnErr, length, slice_get, Some};
 ghost use Rattle.ll_cell.specs.Form.{kept_words};
 ghost use Rattle.wf_object.specs.Packed.{packed};
 ghost use Rattle.ob_interface.specs.View.{call_of};

@@ -1,6 +1,7 @@
 //! What was seen, in which order calls were applied, and who stepped.
 
-ghost use Rattle.std.specs.Prelude.{◌≡◌, ◌+◌, ◌<◌, ◌≤◌, ◌^◌, ◌++◌, ◌∷◌, [], Some, None, OnOk, OnErr, IfOk, IsOk, length, vec_len, vec_capacity, slice_set, if◌then◌else◌};
+ghost use Rattle.std.specs.Prelude.{◌≡◌, ◌+◌, ◌<◌, ◌≤◌, ◌^◌, ◌++◌, ◌∷◌, []};
+ghost use Rattle.std.specs.Prelude.{Some, None, OnOk, OnErr, IfOk, IsOk, length, vec_len, vec_capacity, slice_set, if◌then◌else◌};
 ghost use Rattle.wf_history.specs.View.{kept_call, kept_reply};
 ghost use Rattle.wf_history.specs.History.{IsHistory, Begin, Applied, End};
 ghost use Rattle.wf_table.specs.Schedule.{counted};

@@ -1,7 +1,8 @@
 //! Declarations and the module.
 
 ghost use Rattle.std.specs.Prelude.{◌<◌, map, option_map, OnOk};
-ghost use Rattle.ob_grammar.specs.View.{const_decl_of, type_decl_of, var_decl_of, constants_of, types_of, variables_of, section_of, procedures_in, declarations_of, module_of, name_of, expr_of, type_of};
+ghost use Rattle.ob_grammar.specs.View.{const_decl_of, type_decl_of, var_decl_of, constants_of, types_of, variables_of};
+ghost use Rattle.ob_grammar.specs.View.{section_of, procedures_in, declarations_of, module_of, name_of, expr_of, type_of};
 ghost use Rattle.ob_parser.specs.Forms as forms;
 ghost use Rattle.ob_parser.specs.Answers.{Answers, AnswersModule, AnswersPart, between, heading_in, block_in, procedure_of};
 
