@@ -1,6 +1,6 @@
 -- The listing of the code of a module's text.
 use Rattle.std.specs.Prelude.{◌≡◌, ℕ, List, map}
-use Rattle.ob_code_machine.specs.Listing.{listing}
+use Rattle.ob_object_compile.specs.Listing.{listing}
 use Rattle.ob_code_scheme.specs.Scheme.{code_of}
 use Rattle.ob_object_compile.specs.Asked.{by_body}
 use Rattle.ob_object_compile.specs.Compilation.{ObjectParts, IsCompilation, default_budget}

@@ -3,6 +3,7 @@
 #![tactic(auto)]
 
 pub mod asked;
+pub mod code_text;
 pub mod compiling;
 pub mod laws;
 pub mod listing;

@@ -5,9 +5,9 @@ ghost use Rattle.ob_object_compile.specs.Asked.{TellsAtOnce, by_body};
 ghost use Rattle.ob_object_compile.specs.Compilation.{IsRefusal, IsShort, default_budget};
 ghost use Rattle.ob_object_compile.specs.Listed.{IsListing};
 
+use crate::code_text::list;
 use crate::compiling::{CompileFault, DEFAULT_BUDGET, compile};
 use ob_checked::program::Procedure;
-use ob_code_machine::list;
 use ob_interface::NoMemory;
 use std::alloc::Global;
 

@@ -2,7 +2,7 @@ use Rattle.std.proofs.Common.{◌∙◌, ap, ap₂, map, string_bytes, sym}
 use Rattle.ob_checked.specs.View.{table_of}
 use Rattle.ob_code_correct.specs.CodeMeaning.{EngineParts}
 use Rattle.ob_code_machine.specs.Code.{CodeParts}
-use Rattle.ob_code_machine.specs.Listing.{listing}
+use Rattle.ob_object_compile.specs.Listing.{listing}
 use Rattle.ob_object_compile.proofs.Names.{names_map}
 use Rattle.ob_object_compile.specs.View.{object_in}
 use Rattle.ob_typing.specs.Program.{Program}

@@ -6,7 +6,7 @@ use Rattle.std.proofs.lemmas.Grind.{common_steps}
 use Rattle.std.proofs.Math.Seq.{drop-cons}
 use Rattle.std.proofs.lemmas.List.{get_or-map}
 use Rattle.ob_code_machine.specs.declared.instr.Instr.{Instr}
-use Rattle.ob_code_machine.specs.Listing.{line_at, lines_from, heading_line, end_of, procedure_text, listing}
+use Rattle.ob_object_compile.specs.Listing.{line_at, lines_from, heading_line, end_of, procedure_text, listing}
 
 -- the lines from a place on begin with that of the instruction there
 pub lines_from-more : (instructions : List Instr) (place to : ℕ) → place < to → lines_from instructions place (to - place) ≡ line_at place (slice_get instructions place) ++ lines_from instructions (place + 1) (to - (place + 1))

@@ -1,7 +1,7 @@
 use Rattle.std.proofs.Common.{◌≡◌, ◌++◌, drop, map}
 use Rattle.std.specs.Prelude.{string_bytes}
-use Rattle.ob_code_machine.specs.Listing.{listing}
-use Rattle.ob_code_machine.proofs.listing.list.Given as goal
+use Rattle.ob_object_compile.specs.Listing.{listing}
+use Rattle.ob_object_compile.proofs.code_text.list.Given as goal
 
 abbrev pub invariant-loop-k : goal.invariant-loop-k
 invariant-loop-k l =

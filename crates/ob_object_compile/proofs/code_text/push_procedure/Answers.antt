@@ -1,6 +1,6 @@
 use Rattle.std.proofs.lemmas.Result.{on_ok_weaker}
-use Rattle.ob_code_machine.proofs.Listings.{procedure_written, procedure_missing}
-use Rattle.ob_code_machine.proofs.listing.push_procedure.Goals as goal
+use Rattle.ob_object_compile.proofs.Listings.{procedure_written, procedure_missing}
+use Rattle.ob_object_compile.proofs.code_text.push_procedure.Goals as goal
 
 pub returns-in_ok-push_heading-in-Some : goal.returns-in_ok-push_heading-in-Some
 returns-in_ok-push_heading-in-Some c =

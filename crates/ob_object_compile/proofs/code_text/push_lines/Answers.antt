@@ -1,5 +1,5 @@
-use Rattle.ob_code_machine.proofs.Listings.{line_more}
-use Rattle.ob_code_machine.proofs.listing.push_lines.Goals as goal
+use Rattle.ob_object_compile.proofs.Listings.{line_more}
+use Rattle.ob_object_compile.proofs.code_text.push_lines.Goals as goal
 
 pub loop-place-preserved : goal.loop-place-preserved
 loop-place-preserved c =

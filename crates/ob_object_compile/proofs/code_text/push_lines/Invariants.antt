@@ -1,7 +1,7 @@
 use Rattle.std.proofs.Common.{◌≡◌, ◌-◌, ◌++◌}
 use Rattle.std.specs.Prelude.{string_bytes}
-use Rattle.ob_code_machine.specs.Listing.{lines_from}
-use Rattle.ob_code_machine.proofs.listing.push_lines.Given as goal
+use Rattle.ob_object_compile.specs.Listing.{lines_from}
+use Rattle.ob_object_compile.proofs.code_text.push_lines.Given as goal
 
 abbrev pub invariant-loop-place : goal.invariant-loop-place
 invariant-loop-place l =

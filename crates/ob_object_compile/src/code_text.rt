@@ -3,11 +3,10 @@
 ghost use Rattle.std.specs.Prelude.{◌≡◌, ◌<◌, ◌+◌, ◌-◌, ◌++◌, length, drop, IfOk, OnOk, codes, map, string_bytes, slice_get};
 ghost use Rattle.std.specs.List.{flat_map};
 ghost use Rattle.std.specs.Fmt.{signed_decimal};
-ghost use Rattle.ob_code_machine.specs.Listing as Listing;
+ghost use Rattle.ob_object_compile.specs.Listing as Listing;
 
-use crate::code::Code;
-use crate::instr::Instr;
 use itoa::{Buffer, Integer};
+use ob_code_machine::{Code, Instr};
 use ob_interface::NoMemory;
 use std::alloc::{AllocError, Global};
 

@@ -1,9 +1,9 @@
 use Rattle.std.proofs.Common.{◌<◌, ◌++◌, drop, length, map, ap, ◌∙◌, arith}
 use Rattle.std.specs.Prelude.{string_bytes}
 use Rattle.std.proofs.lemmas.List.{length-map}
-use Rattle.ob_code_machine.specs.Listing.{procedure_text}
-use Rattle.ob_code_machine.proofs.Listings.{name_at, procedure_more}
-use Rattle.ob_code_machine.proofs.listing.list.Goals as goal
+use Rattle.ob_object_compile.specs.Listing.{procedure_text}
+use Rattle.ob_object_compile.proofs.Listings.{name_at, procedure_more}
+use Rattle.ob_object_compile.proofs.code_text.list.Goals as goal
 
 pub loop-k-preserved : goal.loop-k-preserved
 loop-k-preserved c =
