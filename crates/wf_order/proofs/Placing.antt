@@ -1,6 +1,7 @@
 -- What the rows of a history say of a call; and one call more in a list.
 use Rattle.std.proofs.Common.{◌≡◌, sym, ap, ◌∙◌, subst, ℕ, ◌+◌, ◌<◌, ◌≤◌, List, [], ◌∷◌, ◌++◌, length, get_or, take, option_map, Option, Some, None, inl, inr, refl, arith}
 use Rattle.std.proofs.lemmas.List.{map-append, take_more}
+use Rattle.std.proofs.lemmas.Option.{MatchOption-at_some}
 use Rattle.std.specs.Prelude.{slice_get, Contains, MatchOption}
 use Rattle.ob_interface.specs.Call.{ObjectCall, Reply}
 use Rattle.wf_history.proofs.Positions.{contains_at, place_push, same_call}
@@ -57,6 +58,11 @@ module _ (history : List (Event ObjectCall Reply)) (processes : ℕ) (rows : Row
     replied_here reply same =
         subst (λ (r : Option SeenReply). MatchOption r (IsOpen history id) (λ s. Contains history (End id (seen_reply s)))) (sym same)
         (replied (slice_get (row_of (ended_rows rows) id.process) place) refl)
+
+-- a call that has a reply is not open
+pub ended_here : (history : List (Event ObjectCall Reply)) (id : CallId) (c : Listed) (r : SeenReply) → IsListed history c → c.id ≡ id → c.reply ≡ Some r → ¬ IsOpen history id
+ended_here history id c r is named at opens =
+    opens (seen_reply r) (subst (λ (i : CallId). Contains history (End i (seen_reply r))) named (MatchOption-at_some (IsOpen history c.id) (λ (s : SeenReply). Contains history (End c.id (seen_reply s))) r at is.reply))
 
 -- one call more is listed
 pub listed_more : (history : List (Event ObjectCall Reply)) (all more : List Listed) (c : Listed) → more ≡ all ++ c ∷ [] → AreListed history all → IsListed history c → AreListed history more

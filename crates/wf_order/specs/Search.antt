@@ -79,23 +79,15 @@ abbrev pub IsOfFirst : {S : Type 0} → ℕ → Silent S → Type 0
 IsOfFirst processes (Silents.Step process state) = process < processes
 IsOfFirst processes (Silents.Never told) = Unit {0}
 
--- the next call of the process, with its end, may be taken, and leaves each state as it is
-pub record IsSilentCall {M : Type 0} (Effect : ObjectCall → M → M → Reply → Type 0) (rows : Rows) (counts : List ℕ) (limit process : ℕ) (begun : Begun) (ended : Ended) : Type 0 where
+-- the next call of the process, with its end, may be taken
+pub record MayBeTaken (rows : Rows) (counts : List ℕ) (limit process : ℕ) (begun : Begun) (ended : Ended) : Type 0 where
   pub within : process < length counts
   pub at : AreAt rows process (get_or counts process 0) begun ended
   pub early : begun.place < limit
-  pub leaves : (before after : M) → Effect (seen_call begun.call) before after (seen_reply ended.reply) → before ≡ after
 
 -- the process has a next call
 abbrev pub HasNext : Rows → List ℕ → ℕ → Type 0
 HasNext rows counts process = (process < length counts) × (get_or counts process 0 < length (row_of (begun_rows rows) process))
-
--- the next call of the process, with its end, may be taken, and only reads
-pub record IsReadingCall {M : Type 0} (Effect : ObjectCall → M → M → Reply → Type 0) (rows : Rows) (counts : List ℕ) (limit process : ℕ) (begun : Begun) (ended : Ended) : Type 0 where
-  pub within : process < length counts
-  pub at : AreAt rows process (get_or counts process 0) begun ended
-  pub early : begun.place < limit
-  pub leaves : (before after : M) (reply : Reply) → Effect (seen_call begun.call) before after reply → before ≡ after
 
 module _ {State Call Reply : Type 0} (Effect : Call → State → State → Reply → Type 0) (history : List (Event Call Reply)) where
   -- no call of the process is next

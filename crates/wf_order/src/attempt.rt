@@ -11,10 +11,11 @@ use crate::behind::is_behind;
 use crate::object::Object;
 use crate::replies::{is_same_call, is_same_reply};
 use crate::seen::Seen;
-use crate::step::{Here, Silent, Task, Told, any_silent_step, silent_call, step};
+use crate::step::{Here, Silent, Task, Told, any_silent_step, quiet_call, step};
 use crate::turn::next_turn;
 use crate::without::unless_left_out;
 use ob_interface::NoMemory;
+use wf_history::SeenReply;
 
 /// A process whose next call is tried, the state that it leads to, and the place behind its begin.
 #[derive(Drop)]
@@ -34,7 +35,7 @@ fn told_at<'a, O: Object>(
     requires { IfSome told (IsTold (O.effect task.now.object.now) (O.meaning here.now.found.now.state)) }
     ensures { IfOk result (λ o. IfSome o (IsTold (O.effect task.now.object.now) (O.meaning here.now.found.now.state))) }
 {
-    let Some((begun, _end)) = silent_call(task, here, process) else {
+    let Some((begun, _end)) = quiet_call(task, here, process) else {
         return Ok(told);
     };
     if let Some(told) = told {
@@ -98,6 +99,17 @@ fn is_idle<O: Object>(task: &Task<O>, here: &Here<O::State>, process: usize) -> 
     task.object.is_reader(begun.call)
 }
 
+/// Whether the next call of a process ends with values, so that its reply mostly fits in few states.
+fn ends_with_values<O: Object>(task: &Task<O>, here: &Here<O::State>, process: usize) -> bool {
+    let Some(taken) = here.found.counts.get(process) else {
+        return false;
+    };
+    match task.rows.reply_at(process, *taken as usize) {
+        Some(SeenReply::Done(values)) => !values.lent().as_slice().is_empty(),
+        _ => false,
+    }
+}
+
 /// The state that the next call of a process leads to, where it is to be tried. In a hard search, of which this was found, it looks closer
 /// at open calls.
 fn tried<O: Object>(
@@ -118,12 +130,21 @@ fn tried<O: Object>(
     if is_idle(task, here, process) {
         return Ok(None);
     }
-    if is_behind(task, here, process)? {
-        return Ok(None);
+    // Where its values mostly don't fit, no equal call is looked for before that is known.
+    let fits_rarely = ends_with_values(task, here, process);
+    if !fits_rarely {
+        if is_behind(task, here, process)? {
+            return Ok(None);
+        }
     }
     let Some(state) = step(task, here, process)? else {
         return Ok(None);
     };
+    if fits_rarely {
+        if is_behind(task, here, process)? {
+            return Ok(None);
+        }
+    }
     match hard {
         None => Ok(Some(state)),
         Some(seen) => unless_left_out(task, here, seen, process, state),

@@ -19,7 +19,7 @@ use std::alloc::Global;
 use wf_history::CallId;
 
 /// What is known of the first events.
-#[derive(Clone, Copy, Drop)]
+#[derive(Drop)]
 pub(crate) enum Front {
     /// They have a legal order.
     Legal,

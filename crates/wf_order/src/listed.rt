@@ -7,7 +7,6 @@ ghost use Rattle.wf_history.specs.Legal.{HasBegun};
 ghost use Rattle.wf_history.specs.View.{event_of};
 ghost use Rattle.wf_history.specs.declared.event.CallId.{CallId};
 ghost use Rattle.wf_order.specs.Listed.{AreListed, IsListed, NoneIsOpen, ids_of};
-ghost use Rattle.wf_order.specs.Needed.{IsOpen};
 ghost use Rattle.wf_order.specs.Rows.{AreRows};
 
 use crate::rows::{Rows, processes_of, rows_of};
@@ -36,27 +35,17 @@ fn known_call<'a>(rows: &Rows<'a>, id: CallId) -> Option<Listed<'a>>
     Some(Listed { id, call, reply })
 }
 
-/// Whether a call has ended.
-fn has_ended(rows: &Rows, id: CallId) -> bool
-    ensures { (history : List (AnyEvent ObjectCall Reply)) (processes : ℕ) → AreRows history processes rows.now → IsTrue result → ¬ IsOpen history id }
-{
-    let Some(listed) = known_call(rows, id) else {
-        return false;
-    };
-    match listed.reply {
-        Some(_) => true,
-        None => false,
-    }
-}
-
 /// Whether all of these calls have ended.
 fn have_ended(rows: &Rows, order: &[CallId]) -> bool
     ensures { (history : List (AnyEvent ObjectCall Reply)) (processes : ℕ) → AreRows history processes rows.now → IsTrue result → NoneIsOpen history order.now }
 {
     for id in order {
-        if !has_ended(rows, *id) {
+        let Some(listed) = known_call(rows, *id) else {
             return false;
-        }
+        };
+        let Some(_reply) = listed.reply else {
+            return false;
+        };
     }
     true
 }

@@ -1,7 +1,7 @@
 //! The calls that are open behind events.
 
 ghost use Rattle.std.specs.Prelude.{◌≡◌, OnOk, IfOk, map};
-ghost use Rattle.wf_order.specs.Beginnings.{is_same, open_behind, open_calls};
+ghost use Rattle.wf_order.specs.Beginnings.{open_behind, open_calls};
 ghost use Rattle.wf_history.specs.History.{IsHistory};
 ghost use Rattle.wf_history.specs.View.{event_of};
 
@@ -27,14 +27,9 @@ fn note(ids: &mut Vec<CallId>, event: &Event) -> Result<(), AllocError>
     match event.seen() {
         SeenEvent::Begin(id, _) => ids.push(id)?,
         SeenEvent::Applied(_) => {}
-        SeenEvent::End(id, _) => ids.retain(|other| !is_same(id, *other)),
+        SeenEvent::End(id, _) => {
+            ids.retain(|other| !(id.process == other.process && id.number == other.number))
+        }
     }
     Ok(())
-}
-
-/// Whether two names are of one call.
-fn is_same(id: CallId, other: CallId) -> bool
-    ensures { result ≡ is_same id other }
-{
-    id.process == other.process && id.number == other.number
 }

@@ -1,46 +1,21 @@
 //! Calls that only read, passed over: such a call comes as soon as it may be taken with its reply, and what lies before it is not kept.
 
-ghost use Rattle.std.specs.Prelude.{◌≡◌, ◌<◌, ◌+◌, List, length, get_or, IfOk, IfSome, IsTrue, OnOk, slice_set};
-ghost use Rattle.smallvec.specs.SmallVec.{small_vec_len};
+ghost use Rattle.std.specs.Prelude.{List, length, IfOk, IfSome, IsTrue, OnOk};
 ghost use Rattle.ob_interface.specs.Call.{ObjectCall, Reply};
 ghost use Rattle.wf_history.specs.History.{Event};
 ghost use Rattle.wf_history.specs.View.{seen_call, seen_reply};
 ghost use Rattle.wf_order.specs.Rows.{AreRows};
-ghost use Rattle.wf_order.specs.Search.{found_in, HasNext, IsAt, IsPassed, IsReadingCall, IsReadingNext, IsTold, IsWorded};
+ghost use Rattle.wf_order.specs.Search.{found_in, HasNext, IsAt, IsPassed, IsReadingNext, IsTold, IsWorded};
 ghost use Rattle.wf_order.specs.Steps.{IsLimit};
 
 use crate::object::Object;
 use crate::replies::{is_same_call, is_same_reply};
-use crate::rows::{Begun, Ended, limit_of};
+use crate::rows::limit_of;
 use crate::search::Frame;
-use crate::seen::{Counts, Found};
-use crate::step::{Here, Task, Told};
+use crate::seen::Found;
+use crate::step::{Here, Task, Told, quiet_call, take_next};
 use ob_interface::NoMemory;
 use wf_history::{CallId, SeenCall, SeenReply};
-
-/// The next call of a process, and its end, where it only reads and may be taken.
-fn reading_call<'a, O: Object>(
-    task: &Task<'_, 'a, O>,
-    here: &Here<O::State>,
-    process: usize,
-) -> Option<(Begun<'a>, Ended<'a>)>
-    ensures { IfSome result (λ call. IsReadingCall (O.effect task.now.object.now) task.now.rows.now here.now.found.now.counts.items here.now.limit process call.0 call.1) }
-{
-    let limit = here.limit;
-    let place = *here.found.counts.get(process)? as usize;
-    if !task.quiet.has(process, place) {
-        return None;
-    }
-    let end = task.rows.ended_at(process, place)?;
-    let begun = task.rows.begun_at(process, place)?;
-    if begun.place >= limit {
-        return None;
-    }
-    if !task.object.is_reader(begun.call) {
-        return None;
-    }
-    Some((begun, end))
-}
 
 /// Whether a call has this reply in a state. What it replies is noted, so that no equal one is made there again.
 fn replies_so<'a, O: Object>(
@@ -82,17 +57,21 @@ fn reads_here<'a, O: Object>(
     ensures reads { (history : List (Event ObjectCall Reply)) → IsAt history task.now.rows.now here.now
         → IfOk result (λ reads. IsTrue reads → IsReadingNext (O.effect task.now.object.now) history (found_in O.meaning here.now.found.now) process) }
 {
-    let Some((begun, end)) = reading_call(task, here, process) else {
+    let Some((begun, end)) = quiet_call(task, here, process) else {
         return Ok(false);
     };
+    if !task.object.is_reader(begun.call) {
+        return Ok(false);
+    }
     let reads = replies_so(task, &here.found.state, begun.call, end.reply, told)?;
     Ok(reads)
 }
 
-/// The process whose next call only reads, and may be taken with its reply.
+/// The first process, of this one and those behind it, whose next call only reads, and may be taken with its reply.
 fn reader_at<'a, O: Object>(
     task: &Task<'_, 'a, O>,
     here: &Here<O::State>,
+    from: usize,
     told: &mut Option<Told<'a>>,
 ) -> Result<Option<usize>, NoMemory>
     requires { IfSome told.old (IsTold (O.effect task.now.object.now) (O.meaning here.now.found.now.state)) }
@@ -101,7 +80,7 @@ fn reader_at<'a, O: Object>(
     ensures reads { (history : List (Event ObjectCall Reply)) → IsAt history task.now.rows.now here.now
         → IfOk result (λ o. IfSome o (IsReadingNext (O.effect task.now.object.now) history (found_in O.meaning here.now.found.now))) }
 {
-    for process in 0..here.found.counts.len() {
+    for process in from..here.found.counts.len() {
         if reads_here(task, here, process, told)? {
             return Ok(Some(process));
         }
@@ -109,19 +88,10 @@ fn reader_at<'a, O: Object>(
     Ok(None)
 }
 
-/// Takes the next call of a process, and gives its number.
-fn take_next(counts: &mut Counts, process: usize) -> Result<u32, NoMemory>
-    requires { process < small_vec_len counts.old }
-    ensures number { IfOk result (λ number. number ≡ get_or counts.old.items process 0 + 1) }
-    ensures counts { OnOk result (counts.new.items ≡ slice_set counts.old.items process (get_or counts.old.items process 0 + 1)) }
-{
-    let Some(number) = counts[process].checked_add(1) else {
-        return Err(NoMemory);
-    };
-    if let Some(count) = counts.get_mut(process) {
-        *count = number;
-    }
-    Ok(number)
+/// From which process on is asked again behind a call of this one that was taken: where no more calls may be taken than before, those of the
+/// processes before it were asked.
+fn asked_from(process: usize, limit: usize, next: usize) -> usize {
+    if next > limit { 0 } else { process }
 }
 
 /// A configuration, moved on by all calls that only read and may be taken with their replies, and its limit. For each of them there is
@@ -141,6 +111,7 @@ pub(crate) fn passed<O: Object>(
 {
     let mut there = found;
     let mut told = None;
+    let mut from = 0;
     let mut limit = limit_of(task.rows, &there.counts);
     while let Some(process) = reader_at(
         task,
@@ -148,6 +119,7 @@ pub(crate) fn passed<O: Object>(
             found: &there,
             limit,
         },
+        from,
         &mut told,
     )? {
         let number = take_next(&mut there.counts, process)?;
@@ -161,7 +133,9 @@ pub(crate) fn passed<O: Object>(
             id,
             limit,
         })?;
-        limit = limit_of(task.rows, &there.counts);
+        let next = limit_of(task.rows, &there.counts);
+        from = asked_from(process, limit, next);
+        limit = next;
     }
     Ok((there, limit))
 }

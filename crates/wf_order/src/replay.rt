@@ -1,30 +1,15 @@
 //! Calls made one after the other, whose replies are compared with those of the history.
 
-ghost use Rattle.std.specs.Prelude.{◌≡◌, ◌↔◌, IfOk, IfSome, IsTrue, MatchOption};
-ghost use Rattle.ob_interface.specs.View.{reply_of};
+ghost use Rattle.std.specs.Prelude.{◌≡◌, IfOk, IfSome, IsTrue, MatchOption};
 ghost use Rattle.ob_interface.specs.Call.{Reply as AnyReply};
-ghost use Rattle.wf_history.specs.View.{seen_call, seen_reply};
+ghost use Rattle.wf_history.specs.View.{seen_call};
 ghost use Rattle.wf_order.specs.Listed.{Ends, Replays};
 
 use crate::Object;
 use crate::listed::Listed;
+use crate::replies::is_same_reply;
 use ob_interface::NoMemory;
-use ob_interface::call::Reply;
 use std::alloc::Global;
-use wf_history::SeenReply;
-
-/// Whether a reply is that of the history.
-fn is_same_reply(reply: &Reply, other: SeenReply) -> bool
-    ensures { IsTrue result ↔ (reply_of reply.now ≡ seen_reply other.entry) }
-{
-    match (reply, other) {
-        (Reply::Done(values), SeenReply::Done(others)) => {
-            values.as_slice() == others.lent().as_slice()
-        }
-        (Reply::Trap(number), SeenReply::Trap(other)) => *number == other,
-        _ => false,
-    }
-}
 
 /// What a call makes of a state, where its reply is that of the history, if it has one.
 fn outcome<O: Object>(

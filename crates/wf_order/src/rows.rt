@@ -1,9 +1,11 @@
 //! The calls of a history, in rows: one row for each process.
 
-ghost use Rattle.std.specs.Prelude.{◌≡◌, ◌++◌, ◌∷◌, ◌<◌, ◌≤◌, ℕ, List, [], map, length, replicate, slice_set, Contains, IfOk, IfSome, OnOk, vec_len};
+ghost use Rattle.std.specs.Prelude.{◌≡◌, ◌++◌, ◌∷◌, ◌<◌, ◌≤◌, ◌^◌, ℕ, List, [], map, length, replicate, slice_set};
+ghost use Rattle.std.specs.Prelude.{Contains, IfOk, IfSome, OnOk, None, vec_len};
 ghost use Rattle.ob_interface.specs.Call.{ObjectCall, Reply};
 ghost use Rattle.wf_history.specs.History.{Event as AnyEvent, IsHistory};
 ghost use Rattle.wf_history.specs.View.{event_of};
+ghost use Rattle.wf_order.specs.Beginnings.{needed, process_count};
 ghost use Rattle.wf_order.specs.Rows.{AreRows, AreNoted, IsOfProcesses, row_of};
 ghost use Rattle.wf_order.specs.Steps.{IsLimit};
 
@@ -124,6 +126,7 @@ pub fn rows_of(alloc: Global, events: &[Event], processes: usize) -> Result<Rows
 fn enough_for(event: &Event, processes: usize) -> Option<usize>
     ensures enough { IfSome result (λ count. (processes ≤ count) × IsOfProcesses count (event_of event.now)) }
     ensures least { IfSome result (λ count. (n : ℕ) → processes ≤ n → IsOfProcesses n (event_of event.now) → count ≤ n) }
+    ensures many { result ≡ None → 2 ^ 64 ≤ needed (event_of event.now) }
 {
     match event.seen() {
         SeenEvent::Applied(_) => Some(processes),
@@ -137,6 +140,7 @@ fn enough_for(event: &Event, processes: usize) -> Option<usize>
 pub fn processes_of(events: &[Event]) -> Option<usize>
     ensures enough { IfSome result (λ count. (event : AnyEvent ObjectCall Reply) → Contains (map event_of events.now) event → IsOfProcesses count event) }
     ensures least { IfSome result (λ count. (n : ℕ) → ((event : AnyEvent ObjectCall Reply) → Contains (map event_of events.now) event → IsOfProcesses n event) → count ≤ n) }
+    ensures many { result ≡ None → 2 ^ 64 ≤ process_count (map event_of events.now) }
 {
     let mut count = 0;
     for event in events {

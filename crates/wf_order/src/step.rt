@@ -1,11 +1,11 @@
 //! Steps from a configuration.
 
-ghost use Rattle.std.specs.Prelude.{◌≡◌, ◌<◌, List, length, get_or, IfOk, IfSome, MatchOption, IsTrue, option_map, slice_set};
+ghost use Rattle.std.specs.Prelude.{◌≡◌, ◌<◌, ◌+◌, List, length, get_or, IfOk, IfSome, OnOk, MatchOption, IsTrue, option_map, slice_set};
 ghost use Rattle.smallvec.specs.SmallVec.{small_vec_len};
 ghost use Rattle.ob_interface.specs.Call.{ObjectCall, Reply};
 ghost use Rattle.wf_history.specs.History.{Event as AnyEvent};
 ghost use Rattle.wf_history.specs.View.{seen_call, seen_reply};
-ghost use Rattle.wf_order.specs.Search.{found_in, HasNoStep, IsNever, IsNextStep, IsOfFirst, IsSilentFound, IsMade, IsOutcome, IsAt, IsSilentCall, IsWorded};
+ghost use Rattle.wf_order.specs.Search.{found_in, HasNoStep, IsNever, IsNextStep, IsOfFirst, IsSilentFound, IsMade, IsOutcome, IsAt, IsWorded, MayBeTaken};
 ghost use Rattle.wf_order.specs.Rows.{call_at};
 ghost use Rattle.wf_order.specs.Steps.{one_more};
 
@@ -16,7 +16,7 @@ use crate::rows::{Begun, Ended, Rows};
 use crate::seen::{Counts, Found};
 use ob_interface::{NoMemory, call};
 use smallvec::SmallVec;
-use std::alloc::{AllocError, Global};
+use std::alloc::Global;
 use wf_history::{CallId, Event, SeenCall, SeenReply};
 
 /// What is searched: events, with their rows, on an object, and which calls it tells to be silent.
@@ -83,21 +83,19 @@ pub(crate) fn outcome<O: Object>(
     }
 }
 
-/// The counts with another one for a process.
-fn counts_with(
-    alloc: Global,
-    counts: &Counts,
-    process: usize,
-    number: u32,
-) -> Result<Counts, AllocError>
-    requires { process < small_vec_len counts.now }
-    ensures { IfOk result (λ new. new.items ≡ slice_set counts.now.items process number) }
+/// Takes the next call of a process, and gives its number.
+pub(crate) fn take_next(counts: &mut Counts, process: usize) -> Result<u32, NoMemory>
+    requires { process < small_vec_len counts.old }
+    ensures number { IfOk result (λ number. number ≡ get_or counts.old.items process 0 + 1) }
+    ensures counts { OnOk result (counts.new.items ≡ slice_set counts.old.items process (get_or counts.old.items process 0 + 1)) }
 {
-    let mut new = SmallVec::from_slice(alloc, counts.as_slice())?;
-    if let Some(count) = new.get_mut(process) {
+    let Some(number) = counts[process].checked_add(1) else {
+        return Err(NoMemory);
+    };
+    if let Some(count) = counts.get_mut(process) {
         *count = number;
     }
-    Ok(new)
+    Ok(number)
 }
 
 /// Where the next call of a process leads to that makes this state, and which call it is.
@@ -114,10 +112,8 @@ pub(crate) fn one_more<O: Object>(
 {
     let alloc = task.alloc;
     let words = task.object.words(alloc, &state)?;
-    let Some(number) = counts[process].checked_add(1) else {
-        return Err(NoMemory);
-    };
-    let counts = counts_with(alloc, counts, process, number)?;
+    let mut counts = SmallVec::from_slice(alloc, counts.as_slice())?;
+    let number = take_next(&mut counts, process)?;
     let id = CallId {
         process,
         number: number as u64,
@@ -179,13 +175,13 @@ fn made_by<'a, O: Object>(
     Ok(Made { call, state, reply })
 }
 
-/// The next call of a process, and its end, where it is silent and may be taken.
-pub(crate) fn silent_call<'a, O: Object>(
+/// The next call of a process, and its end, where it may be taken and is noted as silent.
+pub(crate) fn quiet_call<'a, O: Object>(
     task: &Task<'_, 'a, O>,
     here: &Here<O::State>,
     process: usize,
 ) -> Option<(Begun<'a>, Ended<'a>)>
-    ensures { IfSome result (λ call. IsSilentCall (O.effect task.now.object.now) task.now.rows.now here.now.found.now.counts.items here.now.limit process call.0 call.1) }
+    ensures { IfSome result (λ call. MayBeTaken task.now.rows.now here.now.found.now.counts.items here.now.limit process call.0 call.1) }
 {
     let limit = here.limit;
     let place = *here.found.counts.get(process)? as usize;
@@ -195,9 +191,6 @@ pub(crate) fn silent_call<'a, O: Object>(
     let end = task.rows.ended_at(process, place)?;
     let begun = task.rows.begun_at(process, place)?;
     if begun.place >= limit {
-        return None;
-    }
-    if !task.object.is_silent(begun.call, end.reply) {
         return None;
     }
     Some((begun, end))
@@ -229,13 +222,17 @@ pub(crate) fn any_silent_step<'a, O: Object>(
         return Ok(Silent::Never(None));
     }
     for process in 0..here.found.counts.len() {
-        if let Some((begun, end)) = silent_call(task, here, process) {
-            let now = made_by(task, &here.found.state, begun.call, made.take())?;
-            if is_same_reply(&now.reply, end.reply) {
-                return Ok(Silent::Step(process, now.state));
-            }
-            made = Some(now);
+        let Some((begun, end)) = quiet_call(task, here, process) else {
+            continue;
+        };
+        if !task.object.is_silent(begun.call, end.reply) {
+            continue;
         }
+        let now = made_by(task, &here.found.state, begun.call, made.take())?;
+        if is_same_reply(&now.reply, end.reply) {
+            return Ok(Silent::Step(process, now.state));
+        }
+        made = Some(now);
     }
     let Some(last) = made else {
         return Ok(Silent::Never(None));

@@ -19,6 +19,10 @@ pub returns-then-branch : goal.returns-then-branch
 returns-then-branch g c = λ history found at tells.
     behind_answered (g.O.Object.effect c.args.task.now.object.now) history found (found_in g.O.Object.meaning c.args.here.now.found.now) c.args.process (c.in_ok-is_behind.ensures history at c.if-branch.true)
 
+pub returns-then-branch-2 : goal.returns-then-branch-2
+returns-then-branch-2 g c = λ history found at tells.
+    behind_answered (g.O.Object.effect c.args.task.now.object.now) history found (found_in g.O.Object.meaning c.args.here.now.found.now) c.args.process (c.in_ok-is_behind-2.ensures history at c.if-branch-2.true)
+
 at_none : {A : Type 0} {P Q : Type 0} (R : A → Type 0) → (P → Q) → (o : Option A) → MatchOption o P R → MatchOption o Q R
 at_none R f None h = f h
 at_none R f (Some x) h = h

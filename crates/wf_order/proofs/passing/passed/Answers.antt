@@ -80,7 +80,7 @@ loop-told-preserved g c =
           };
       limit = λ history are.
           let own = subst (λ (n : ℕ). AreRows history n rows) (sym (ap length c.deref-in-Some.ensures ∙ size ∙ old.sized)) are in
-          subst (λ (xs : List ℕ). IsLimit history xs c.limit_of-limit-in-Some.result) c.deref-in-Some.ensures (c.limit_of-limit-in-Some.ensures history own);
+          subst (λ (xs : List ℕ). IsLimit history xs c.limit_of-next.result) c.deref-in-Some.ensures (c.limit_of-next.ensures history own);
     }
 
 pub returns-clause-passed : goal.returns-clause-passed

@@ -19,4 +19,4 @@ returns-clause-reads g c = λ history at yes.
     let call = c.in-Some.ensures in
     let made = c.in_ok-reads.ensures.replies yes in
     reading_taken effect (λ call. g.met.O.Object.determined c.args.task.now.object.now call) history c.args.task.now.rows.now here at.0 c.args.here.now.limit at.1 c.args.process (get_or here.counts c.args.process 0) refl
-    c.in-Some.begun call.at.0 c.in-Some.end call.at.1 call.leaves call.within call.early made.0 made.1
+    c.in-Some.begun call.at.0 c.in-Some.end call.at.1 (c.is_reader.ensures c.if-not-is_reader.false) call.within call.early made.0 made.1

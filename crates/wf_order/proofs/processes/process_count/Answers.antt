@@ -1,27 +1,29 @@
+-- The fewest that are enough for all events.
 use Rattle.std.proofs.Common.{arith, map}
-use Rattle.wf_order.proofs.Counted.{counted_next, needed_within}
+use Rattle.std.proofs.lemmas.Option.{MatchOption-at_some}
 use Rattle.wf_history.specs.View.{event_of}
-use Rattle.wf_order.proofs.Lists.{item_here}
+use Rattle.wf_order.proofs.Counted.{counted}
 use Rattle.wf_order.proofs.processes.process_count.Goals as goal
 
 pub returns-in_default : goal.returns-in_default
-returns-in_default c =
-    let i = c.loop-event.event-index in
-    let events = map event_of c.args.events.now in
-    let here = item_here event_of c.args.events.now i c.event-item.result c.loop-event-test.true c.event-item.is in
-    let within = needed_within events i (event_of c.event-item.result) here in
-    let many = c.in_default.ensures in
-    omega (arith, within, many)
+returns-in_default c = let many = c.processes_of.ensures.many c.in_default.is in omega (arith, many)
 
-pub loop-event-preserved : goal.loop-event-preserved
-loop-event-preserved c =
-    let i = c.loop-event.event-index in
-    let events = map event_of c.args.events.now in
-    let here = item_here event_of c.args.events.now i c.event-item.result c.loop-event-test.true c.event-item.is in
-    let next = counted_next events i (event_of c.event-item.result) here in
-    let most = c.larger-count.ensures in
-    let own = c.in-Some.ensures in
-    record {
-      counted = omega (arith, next, most, own.0, c.loop-event.invariant.counted);
-      few = omega (arith, most, own.1, c.loop-event.invariant.few);
-    }
+pub returns-then-count-gt-MOST_PROCESSES : goal.returns-then-count-gt-MOST_PROCESSES
+returns-then-count-gt-MOST_PROCESSES c =
+    let named = c.in-Some.named in
+    let enough = MatchOption-at_some _ _ named c.in-Some.is c.processes_of.ensures.enough in
+    let least = MatchOption-at_some _ _ named c.in-Some.is c.processes_of.ensures.least in
+    let is = counted (map event_of c.args.events.now) named enough least in
+    let most = c.max-count.ensures in
+    let many = c.if-count-gt-MOST_PROCESSES.true in
+    omega (arith, is, most, many)
+
+pub returns : goal.returns
+returns c =
+    let named = c.in-Some.named in
+    let enough = MatchOption-at_some _ _ named c.in-Some.is c.processes_of.ensures.enough in
+    let least = MatchOption-at_some _ _ named c.in-Some.is c.processes_of.ensures.least in
+    let is = counted (map event_of c.args.events.now) named enough least in
+    let most = c.max-count.ensures in
+    let few = c.if-count-gt-MOST_PROCESSES.false in
+    (omega (arith, is, most), omega (arith, few))

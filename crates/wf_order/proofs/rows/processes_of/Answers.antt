@@ -5,23 +5,19 @@ use Rattle.std.proofs.lemmas.Option.{slice_get_within}
 use Rattle.std.proofs.lemmas.List.{length-map}
 use Rattle.std.specs.List.{slice_get}
 use Rattle.ob_interface.specs.Call.{ObjectCall, Reply}
-use Rattle.wf_history.specs.History.{Event, Begin, Applied, End}
+use Rattle.wf_history.specs.History.{Event}
 use Rattle.wf_history.specs.View.{event_of}
 use Rattle.wf_history.proofs.Positions.{place_of, contains_at}
 use Rattle.wf_order.specs.Rows.{IsOfProcesses}
+use Rattle.wf_order.proofs.Counted.{needed_within, wider}
 use Rattle.wf_order.proofs.Lists.{item_here, item_at}
 use Rattle.wf_order.proofs.rows.processes_of.Goals as goal
-
-more : (m n : ℕ) (e : Event ObjectCall Reply) → m ≤ n → IsOfProcesses m e → IsOfProcesses n e
-more m n (Begin id call) le h = omega arith
-more m n (Applied ids) le h = tt
-more m n (End id reply) le h = omega arith
 
 pub loop-event-preserved : goal.loop-event-preserved
 loop-event-preserved c = (
   (λ k event lt at.
       elim (cases_lt k c.loop-event.event-index) [
-        | inl less ↦ more c.loop-event.count c.in_ok-count.count event c.in_ok-count.ensures.enough.0 (c.loop-event.invariant.0 k event less at)
+        | inl less ↦ wider c.loop-event.count c.in_ok-count.count event c.in_ok-count.ensures.enough.0 (c.loop-event.invariant.0 k event less at)
         | inr le ↦
             let same : k ≡ c.loop-event.event-index = omega (arith, lt, le) in
             let inside : c.loop-event.event-index < length c.args.events.now = c.loop-event-test.true in
@@ -44,3 +40,12 @@ returns-clause-enough c = λ event h.
 
 pub returns-clause-least : goal.returns-clause-least
 returns-clause-least c = λ n all. c.loop-event.invariant.1 n (λ k event lt at. all event (contains_at (map event_of c.args.events.now) k event at))
+
+pub returns-in_err-count-clause-many : goal.returns-in_err-count-clause-many
+returns-in_err-count-clause-many c = λ none.
+    let events = map event_of c.args.events.now in
+    let inside : c.loop-event.event-index < length c.args.events.now = c.loop-event-test.true in
+    let here = item_here event_of c.args.events.now c.loop-event.event-index c.event-item.result inside c.event-item.is in
+    let within = needed_within events c.loop-event.event-index (event_of c.event-item.result) here in
+    let many = c.enough_for.ensures.many c.in_err-count.was in
+    omega (arith, within, many)

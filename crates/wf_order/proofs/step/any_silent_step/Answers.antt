@@ -17,7 +17,7 @@ returns-then-is_same_reply-clause-silent g c = λ history at.
     let after = g.O.Object.meaning now.state in
     let made : effect (seen_call c.in-Some.begun.call) here.state after (reply_of now.reply) = subst (λ (x : ObjectCall). effect x here.state after (reply_of now.reply)) c.in_ok-now.ensures.1 c.in_ok-now.ensures.0 in
     silent_taken effect (λ call. g.met.O.Object.determined c.args.task.now.object.now call) history c.args.task.now.rows.now here at.0 c.args.here.now.limit at.1 process (get_or here.counts process 0) refl
-    c.in-Some.begun call.at.0 c.in-Some.end call.at.1 call.leaves call.within call.early after (reply_of now.reply) made (c.is_same_reply.ensures.0 c.if-is_same_reply.true)
+    c.in-Some.begun call.at.0 c.in-Some.end call.at.1 (c.is_silent.ensures c.if-not-is_silent.false) call.within call.early after (reply_of now.reply) made (c.is_same_reply.ensures.0 c.if-is_same_reply.true)
 
 pub returns-clause-told : goal.returns-clause-told
 returns-clause-told g c =
