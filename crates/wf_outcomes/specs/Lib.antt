@@ -3,6 +3,7 @@ pub mod RememberedCalls
 pub mod Merges
 pub mod Outcomes
 pub mod Possible
+pub mod Questions
 pub mod Meetings
 pub mod OutcomeOrders
 pub mod View

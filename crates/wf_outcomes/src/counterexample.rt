@@ -1,8 +1,7 @@
 //! The first configuration at which a call has another reply than is wanted.
 
 ghost use Rattle.std.specs.Prelude.{◌↔◌, IfOk, IsTrue};
-ghost use Rattle.wf_history.specs.View.{kept_call, kept_reply};
-ghost use Rattle.wf_outcomes.specs.Outcomes.{Answers};
+ghost use Rattle.wf_outcomes.specs.Questions.{IsAnswered};
 
 use crate::explored::Explored;
 use crate::step::applied;
@@ -32,7 +31,7 @@ fn answers<O: Object>(
     state: &O::State,
     question: Question,
 ) -> Result<bool, NoMemory>
-    ensures { IfOk result (λ good. IsTrue good ↔ Answers (O.effect object.now) (kept_call question.entry.call.now) (kept_reply question.entry.wanted.now) (O.meaning state.now)) }
+    ensures { IfOk result (λ good. IsTrue good ↔ IsAnswered (O.effect object.now) question.entry (O.meaning state.now)) }
 {
     let (_, reply) = applied(alloc, object, state, question.call)?;
     Ok(same_reply(&reply, question.wanted))
@@ -40,14 +39,15 @@ fn answers<O: Object>(
 
 impl<'a, O: Object> Explored<'a, O> {
     ghost use Rattle.std.specs.Prelude.{length, IfOk, MatchOption};
-    ghost use Rattle.wf_history.specs.View.{kept_call, kept_reply};
     ghost use Rattle.wf_outcomes.specs.Explored.{all_kept, calls_in};
-    ghost use Rattle.wf_outcomes.specs.Outcomes.{Answers, AlwaysGood, AreGood, IsFirstBad, IsFirstPlace};
+    ghost use Rattle.wf_outcomes.specs.Outcomes.{AlwaysGood, AreGood, IsFirstBad, IsFirstPlace};
+    ghost use Rattle.wf_outcomes.specs.Questions.{IsAnswered};
 
     /// The first place at which the call has another reply.
     fn first_failing(&self, alloc: Global, question: Question) -> Result<Option<usize>, NoMemory>
-        ensures { IfOk result (λ found. MatchOption found (AreGood (Answers (O.effect self.now.object.now) (kept_call question.entry.call.now) (kept_reply question.entry.wanted.now)) (all_kept O.meaning self.now.seen) (length (all_kept O.meaning self.now.seen)))
-            (IsFirstPlace (Answers (O.effect self.now.object.now) (kept_call question.entry.call.now) (kept_reply question.entry.wanted.now)) (all_kept O.meaning self.now.seen))) }
+        ensures { IfOk result (λ found. MatchOption found
+            (AreGood (IsAnswered (O.effect self.now.object.now) question.entry) (all_kept O.meaning self.now.seen) (length (all_kept O.meaning self.now.seen)))
+            (IsFirstPlace (IsAnswered (O.effect self.now.object.now) question.entry) (all_kept O.meaning self.now.seen))) }
     {
         for place in 0..self.seen.len() {
             if !answers(alloc, self.object, self.seen[place].state(), question)? {
@@ -61,10 +61,10 @@ impl<'a, O: Object> Explored<'a, O> {
     /// one. Where there is none, the call has the reply at each configuration that can be reached.
     pub fn first_bad(&self, alloc: Global, question: Question) -> Result<Option<Bad>, NoMemory>
         ensures { IfOk result (λ found. MatchOption found
-            ∥ AlwaysGood (O.effect self.now.object.now)
-            (calls_in self.now.scripts.now) (O.opening self.now.object.now) (Answers (O.effect self.now.object.now) (kept_call question.entry.call.now) (kept_reply question.entry.wanted.now)) ∥₁
+            ∥ AlwaysGood (O.effect self.now.object.now) (calls_in self.now.scripts.now) (O.opening self.now.object.now)
+            (IsAnswered (O.effect self.now.object.now) question.entry) ∥₁
             (λ bad. ∥ IsFirstBad (O.effect self.now.object.now) (calls_in self.now.scripts.now) (O.opening self.now.object.now) (all_kept O.meaning self.now.seen)
-            (Answers (O.effect self.now.object.now) (kept_call question.entry.call.now) (kept_reply question.entry.wanted.now)) bad.place bad.path.items ∥₁)) }
+            (IsAnswered (O.effect self.now.object.now) question.entry) bad.place bad.path.items ∥₁)) }
     {
         let Some(place) = self.first_failing(alloc, question)? else {
             return Ok(None);

@@ -2,9 +2,8 @@
 use Rattle.std.proofs.Common.{ap, sym, subst, ◌∙◌, option_map, arith}
 use Rattle.std.proofs.lemmas.List.{length-map}
 use Rattle.std.proofs.lemmas.Option.{slice_get-map}
-use Rattle.wf_history.specs.View.{kept_call, kept_reply}
 use Rattle.wf_outcomes.specs.Explored.{kept_in, all_kept}
-use Rattle.wf_outcomes.specs.Outcomes.{Answers}
+use Rattle.wf_outcomes.specs.Questions.{IsAnswered}
 use Rattle.wf_outcomes.proofs.Backward.{good_more}
 use Rattle.wf_outcomes.proofs.explored.Explored.first_failing.Goals as goal
 
@@ -14,7 +13,7 @@ returns-then-not-branch g c =
     let at = slice_get-map view c.args.self.now.seen.keys c.loop-place.place ∙ ap (option_map view) c.index.ensures in (
       view c.index.result.now,
       at,
-      (λ good. let t = c.in_ok-answers.ensures.1 (subst (λ (s : g.row.O-State.Denot). Answers (g.O.Object.effect c.args.self.now.object.now) (kept_call c.args.question.call.now) (kept_reply c.args.question.wanted.now) (g.O.Object.meaning s)) (sym c.state.ensures) good) in let f = c.if-not-branch.true in absurd (cc)),
+      (λ good. let t = c.in_ok-answers.ensures.1 (subst (λ (s : g.row.O-State.Denot). IsAnswered (g.O.Object.effect c.args.self.now.object.now) c.args.question (g.O.Object.meaning s)) (sym c.state.ensures) good) in let f = c.if-not-branch.true in absurd (cc)),
       c.loop-place.invariant,
     )
 
@@ -24,9 +23,9 @@ loop-place-preserved g c =
     let self = c.args.self.now in
     let question = c.args.question in
     let at = slice_get-map view self.seen.keys c.loop-place.place ∙ ap (option_map view) c.index.ensures in
-    good_more (Answers (g.O.Object.effect self.object.now) (kept_call question.call.now) (kept_reply question.wanted.now)) (all_kept g.O.Object.meaning self.seen) c.loop-place.place c.loop-place.invariant
+    good_more (IsAnswered (g.O.Object.effect self.object.now) question) (all_kept g.O.Object.meaning self.seen) c.loop-place.place c.loop-place.invariant
     (view c.index.result.now) at
-    (subst (λ (s : g.row.O-State.Denot). Answers (g.O.Object.effect self.object.now) (kept_call question.call.now) (kept_reply question.wanted.now) (g.O.Object.meaning s)) c.state.ensures (c.in_ok-answers.ensures.0 c.if-not-branch.false))
+    (subst (λ (s : g.row.O-State.Denot). IsAnswered (g.O.Object.effect self.object.now) question (g.O.Object.meaning s)) c.state.ensures (c.in_ok-answers.ensures.0 c.if-not-branch.false))
 
 pub returns : goal.returns
 returns g c = λ k e lt there.
