@@ -11,7 +11,7 @@ use Rattle.ob_typing.specs.declared.rule.Rule.{Rule}
 use Rattle.ob_typing.specs.declared.rule.Rule.TheVariants as Rules
 use Rattle.ob_evidence.specs.Evidence.{IsTrueOf}
 use Rattle.ob_evidence.specs.Sites.{IsScene, Scene, here, kind_of, last, next, second}
-use Rattle.ob_explain_names.specs.Declaring.{declares}
+use Rattle.ob_explain_words.specs.Declaring.{declares}
 use Rattle.ob_messages.specs.Places.{shown_place}
 use Rattle.ob_messages.specs.Remarks.{Remark}
 use Rattle.ob_messages.specs.Said.{Evidence, hint_text, sentence_text}

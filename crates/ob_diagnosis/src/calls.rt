@@ -73,7 +73,7 @@ pub(crate) fn called(site: &Site<'_, '_>, could: &[Kind]) -> Option<Token> {
 }
 
 /// The first token of the statement in which the place stands.
-fn first_of_statement(site: &Site<'_, '_>) -> Option<Token> {
+pub(crate) fn first_of_statement(site: &Site<'_, '_>) -> Option<Token> {
     let leader = site
         .before
         .iter()

@@ -1,7 +1,7 @@
 //! What stands further on behind a place: whether a parenthesis is closed there, whether a BEGIN begins a block, what is declared.
 
 use ob_evidence::site::{Site, is_kind, is_token};
-use ob_explain_names::actuals::{is_left, is_right};
+use ob_explain_names::kinds::{is_left, is_right};
 use ob_scan::{Kind, Token};
 
 /// Whether a token stands there behind the END of the module, its name and the `.`.
@@ -116,6 +116,28 @@ pub(crate) fn declares_type(site: &Site<'_, '_>, word: &[u8]) -> bool {
 
 /// Whether a word is the name of the type in whose declaration the place stands.
 pub(crate) fn is_own_type(site: &Site<'_, '_>, word: &[u8]) -> bool {
+    is_defined_there(site, word) && stands_in_types(site)
+}
+
+/// Whether a word is the name of the constant, the variable or the parameter in whose declaration the place stands.
+pub(crate) fn is_own_name(site: &Site<'_, '_>, word: &[u8]) -> bool {
+    matches!(listed(site, word), Listing::There)
+        || (is_defined_there(site, word) && !stands_in_types(site))
+}
+
+/// Whether declarations of types stand at the place.
+fn stands_in_types(site: &Site<'_, '_>) -> bool {
+    let section = site.before.iter().copied().find(|token| {
+        matches!(
+            token.kind,
+            Kind::Const | Kind::Type | Kind::Var | Kind::Procedure | Kind::Begin
+        )
+    });
+    is_kind(section, Kind::Type)
+}
+
+/// Whether a word is the name of the constant or of the type in whose declaration the place stands.
+fn is_defined_there(site: &Site<'_, '_>, word: &[u8]) -> bool {
     let mut is_type = false;
     for token in site.before {
         if is_type && !word.is_empty() && site.word_of(Some(*token)) == word {
@@ -138,33 +160,76 @@ fn is_in_types(in_types: bool, kind: Kind) -> bool {
     }
 }
 
+/// Where variables and parameters of a name are declared before a place: nowhere, in the declaration in which it stands, or only in
+/// declarations that have ended.
+#[derive(Clone, Copy)]
+enum Listing {
+    Nowhere,
+    There,
+    Before,
+}
+
 /// Whether a variable or a parameter of this name is declared before the place, where none of it is visible: so in a procedure that
 /// has ended.
 pub(crate) fn is_elsewhere(site: &Site<'_, '_>, word: &[u8]) -> bool {
+    matches!(listed(site, word), Listing::Before)
+}
+
+/// Where a variable or a parameter of this name is declared before the place.
+fn listed(site: &Site<'_, '_>, word: &[u8]) -> Listing {
+    let mut found = Listing::Nowhere;
     let mut is_listed = false;
+    let mut records: usize = 0;
     let mut last = Kind::Module;
     for token in site.tokens {
         if site.place <= token.start {
-            return false;
+            return found;
         }
-        let begins = matches!(
-            last,
-            Kind::Var | Kind::Semicolon | Kind::Comma | Kind::LeftParen
-        );
-        if is_listed && begins && !word.is_empty() && site.word_of(Some(*token)) == word {
-            return true;
+        if records == 0 && token.kind == Kind::Semicolon {
+            found = ended(found);
         }
-        is_listed = is_in_list(is_listed, token.kind);
+        let begins = is_listed && records == 0 && begins_name(last);
+        if begins && !word.is_empty() && site.word_of(Some(*token)) == word {
+            found = Listing::There;
+        }
+        is_listed = is_in_list(is_listed, records, token.kind);
+        records = records_behind(records, token.kind);
         last = token.kind;
     }
-    false
+    found
 }
 
-/// Whether names of variables or of parameters may stand behind a token.
-fn is_in_list(is_listed: bool, kind: Kind) -> bool {
+/// The same behind the `;` of a declaration.
+fn ended(found: Listing) -> Listing {
+    match found {
+        Listing::Nowhere => Listing::Nowhere,
+        _ => Listing::Before,
+    }
+}
+
+/// Whether the name of a variable or of a parameter may stand behind a token.
+fn begins_name(kind: Kind) -> bool {
+    matches!(
+        kind,
+        Kind::Var | Kind::Semicolon | Kind::Comma | Kind::LeftParen
+    )
+}
+
+/// How many records are open behind a token, where so many are before it.
+fn records_behind(open: usize, kind: Kind) -> usize {
+    match kind {
+        Kind::Record => open.saturating_add(1),
+        Kind::End => open.saturating_sub(1),
+        _ => open,
+    }
+}
+
+/// Whether variables or parameters are declared behind a token, where so many records are open before it.
+fn is_in_list(is_listed: bool, records: usize, kind: Kind) -> bool {
     match kind {
         Kind::Var | Kind::Procedure => true,
-        Kind::Begin | Kind::Const | Kind::Type | Kind::End => false,
+        Kind::Begin | Kind::Const | Kind::Type => false,
+        Kind::End => is_listed && records > 0,
         _ => is_listed,
     }
 }

@@ -7,7 +7,7 @@ ghost use Rattle.ob_messages.specs.Remarks.{remark_of};
 
 use crate::calls::{is_field, is_procedure};
 use crate::foreign::is_number_type;
-use crate::further::{declares_other, is_elsewhere, is_own_type};
+use crate::further::{declares_other, is_elsewhere, is_own_name, is_own_type};
 use crate::table_rows::{Seen, nothing, of_facts, told};
 use ob_evidence::facts::facts_of;
 use ob_evidence::names::{
@@ -43,6 +43,7 @@ pub(crate) fn unknown_remark(alloc: Global, site: &Site<'_, '_>) -> Result<Remar
             (is_elsewhere(site, word), Fact::Elsewhere),
             (is_number_type(word), Fact::NumberType),
             (is_own_type(site, word), Fact::OwnType),
+            (is_own_name(site, word), Fact::OwnName),
         ],
     )?;
     let seen = Seen {

@@ -9,7 +9,7 @@ ghost use Rattle.ob_messages.specs.Said.{evidence_of};
 
 use ob_evidence::facts::facts_of;
 use ob_evidence::site::{Site, kind_of};
-use ob_explain_names::declaring::declares;
+use ob_explain_words::declaring::declares;
 use ob_messages::matcher::View;
 use ob_messages::place::{halves, shown_place};
 use ob_messages::remark::Remark;

@@ -7,14 +7,15 @@ ghost use Rattle.ob_evidence.specs.Sites.{scene_of};
 use crate::calls::{begins_with_bracket, called, ends_repeat, is_assigned, is_procedure, lists};
 use crate::foreign::{is_foreign, is_type_name};
 use crate::further::{begins_block, declares_type, has_ended, is_closed_behind};
-use crate::keywords::{is_keyword, keyword_before, keyword_there};
+use crate::keywords::{is_keyword, keyword_before, keyword_first, keyword_there};
 use crate::missing::missing_there;
 use ob_evidence::constructs::{Shown, shown_there};
 use ob_evidence::facts::note;
 use ob_evidence::site::{Site, is_kind};
-use ob_explain_names::declaring::declares;
 use ob_explain_names::open::open_construct;
 use ob_explain_names::parens::is_in_parens;
+use ob_explain_words::declaring::declares;
+use ob_messages::place::halves;
 use ob_messages::table::Fact;
 use ob_scan::{Kind, Token};
 use std::alloc::{AllocError, Global};
@@ -42,6 +43,9 @@ pub(crate) fn seen_there(
     note(facts, !could.is_empty(), Fact::Expected)?;
     note_tokens(facts, site, could)?;
     note_words(facts, site)?;
+    if let Some(declared) = declared_there(site) {
+        facts.push(declared)?;
+    }
     let call = called(site, could);
     let name = site.word_of(call);
     let is_undeclared = !name.is_empty() && !is_procedure(site, site.tokens, name);
@@ -59,7 +63,7 @@ pub(crate) fn seen_there(
     })
 }
 
-/// The keyword that is meant there or before it, which is noted.
+/// The keyword that is meant there, before it or where the statement begins, which is noted.
 fn noted_keyword(
     facts: &mut Vec<Fact>,
     alloc: Global,
@@ -69,9 +73,13 @@ fn noted_keyword(
         facts.push(Fact::Keyword)?;
         return Ok(Some(keyword));
     }
-    let keyword = keyword_before(alloc, site)?;
-    note(facts, keyword.is_some(), Fact::Keyword)?;
-    note(facts, keyword.is_some(), Fact::KeywordBefore)?;
+    if let Some(keyword) = keyword_before(alloc, site)? {
+        facts.push(Fact::Keyword)?;
+        facts.push(Fact::KeywordBefore)?;
+        return Ok(Some(keyword));
+    }
+    let keyword = keyword_first(alloc, site)?;
+    note(facts, keyword.is_some(), Fact::KeywordFirst)?;
     Ok(keyword)
 }
 
@@ -109,6 +117,7 @@ fn note_tokens(
     note(facts, ends_heading(site, could), Fact::Heading)?;
     note(facts, is_keyword_there(site), Fact::KeywordThere)?;
     note(facts, has_ended(site), Fact::ModuleEnded)?;
+    note(facts, is_line_ended(site), Fact::LineEnded)?;
     note(facts, is_in_parens(site.before), Fact::InParens)?;
     note(facts, is_closed_behind(site), Fact::ClosedBehind)?;
     note(facts, begins_block(site), Fact::Block)?;
@@ -144,17 +153,35 @@ fn note_words(facts: &mut Vec<Fact>, site: &Site<'_, '_>) -> Result<(), AllocErr
         Fact::Actual,
     )?;
     note(facts, is_type_name(before), Fact::TypeBefore)?;
+    note(facts, is_type(site, word), Fact::TypeThere)?;
     note(
         facts,
-        is_type_name(word) || declares_type(site, word),
-        Fact::TypeThere,
-    )?;
-    let next = site.word_of(site.next());
-    note(
-        facts,
-        is_type_name(next) || declares_type(site, next),
+        is_type(site, site.word_of(site.next())),
         Fact::TypeNext,
     )
+}
+
+/// Whether a word is the name of a type, of this text or of a language.
+fn is_type(site: &Site<'_, '_>, word: &[u8]) -> bool {
+    is_type_name(word) || declares_type(site, word)
+}
+
+/// As what a name is to be declared that stands there before a `=`: as a type, or as a constant where the text does not declare it.
+fn declared_there(site: &Site<'_, '_>) -> Option<Fact> {
+    match site.behind {
+        [equal, behind, ..] if equal.kind == Kind::Equal && is_kind(site.here(), Kind::Ident) => {
+            if matches!(behind.kind, Kind::Array | Kind::Record)
+                || is_type(site, site.word_of(Some(*behind)))
+            {
+                Some(Fact::BeginsType)
+            } else if declares(site.text, site.tokens, site.word()) {
+                None
+            } else {
+                Some(Fact::BeginsConstant)
+            }
+        }
+        _ => None,
+    }
 }
 
 /// Whether a keyword stands there.
@@ -169,6 +196,18 @@ fn is_keyword_there(site: &Site<'_, '_>) -> bool {
 fn is_touching(site: &Site<'_, '_>) -> bool {
     match site.last() {
         Some(last) => last.end == site.place,
+        None => false,
+    }
+}
+
+/// Whether a line ends behind the last but one token before the place.
+fn is_line_ended(site: &Site<'_, '_>) -> bool {
+    let Some(last) = site.last() else {
+        return false;
+    };
+    let (before, _) = halves(site.text, last.start);
+    match site.second() {
+        Some(second) => halves(before, second.end).1.contains(&b'\n'),
         None => false,
     }
 }

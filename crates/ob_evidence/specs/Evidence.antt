@@ -52,10 +52,12 @@ pub record IsUnknownName (s : Scene) (facts : List Fact) (e : Evidence) : Type 0
   pub elsewhere : Bool
   pub number_type : Bool
   pub own_type : Bool
+  pub own_name : Bool
   pub name : e.name ≡ bytes_of s.text (near_name s).named
   pub noted : facts ≡ facts_in (
       (is_near (near_name s), Facts.Near) ∷ (further_down, Facts.FurtherDown) ∷ (field, Facts.Field)
-      ∷ (elsewhere, Facts.Elsewhere) ∷ (number_type, Facts.NumberType) ∷ (own_type, Facts.OwnType) ∷ [])
+      ∷ (elsewhere, Facts.Elsewhere) ∷ (number_type, Facts.NumberType) ∷ (own_type, Facts.OwnType)
+      ∷ (own_name, Facts.OwnName) ∷ [])
 
 -- C2: the line is that of the declaration before.
 pub record IsDeclaredTwice (s : Scene) (facts : List Fact) (e : Evidence) : Type 0 where

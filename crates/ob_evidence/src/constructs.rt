@@ -56,8 +56,13 @@ fn of_closed(site: &Site<'_, '_>, before: &[Token], opening: Token) -> Option<Sh
     ensures { AreOpen before.now result }
 {
     if is_unit(opening.kind) {
+        let fact = if is_behind_until(before) {
+            Fact::UntilBefore
+        } else {
+            Fact::UnitEnded
+        };
         Some(Shown {
-            fact: ended(before),
+            fact,
             opening: Some(opening),
             inner: None,
         })
@@ -78,15 +83,6 @@ fn of_closed(site: &Site<'_, '_>, before: &[Token], opening: Token) -> Option<Sh
     }
 }
 
-/// How a module or a procedure ended behind these tokens.
-fn ended(before: &[Token]) -> Fact {
-    if is_behind_until(before) {
-        Fact::UntilBefore
-    } else {
-        Fact::UnitEnded
-    }
-}
-
 /// What is still open behind the END before a name, where that name is the one of a module or procedure around it.
 pub fn open_around(site: &Site<'_, '_>) -> Option<Token>
     ensures { IsOpen (rest_of site.now.before.now) result None }
@@ -99,14 +95,25 @@ pub fn open_around(site: &Site<'_, '_>) -> Option<Token>
     }
 }
 
-/// What the construct shows that is open at the place and could be closed there.
+/// What the construct shows that is open at the place and could be closed there, or is a record before the declaration of a type.
 fn of_open(site: &Site<'_, '_>, could: &[Kind]) -> Option<Shown>
     ensures { AreOpen site.now.before.now result }
 {
     match open_construct(site.before) {
+        Some(opening) if opening.kind == Kind::Record && begins_type(site) => Some(Shown {
+            fact: Fact::StillOpen,
+            opening: Some(opening),
+            inner: None,
+        }),
         Some(opening) if could.contains(&closing(opening.kind)) => of_opening(site, opening),
         _ => None,
     }
+}
+
+/// Whether a `=` stands there, and behind it the type of arrays or records.
+fn begins_type(site: &Site<'_, '_>) -> bool {
+    is_kind(site.here(), Kind::Equal)
+        && (is_kind(site.next(), Kind::Array) || is_kind(site.next(), Kind::Record))
 }
 
 /// What the construct shows that this token opens.

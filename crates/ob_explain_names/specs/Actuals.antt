@@ -1,8 +1,9 @@
 -- How many actuals a call has, of the tokens behind its name.
 use Rattle.std.specs.Prelude.{ℕ, ◌+◌, ◌&&◌, not, Bool, true, false, List, [], ◌∷◌, if◌then◌else◌}
 use Rattle.ob_scan.specs.declared.token.Kind.{Kind}
-use Rattle.ob_scan.specs.declared.token.Kind.TheVariants.{LeftParen, RightParen, Comma, Semicolon, End, Else, Elsif, Until}
+use Rattle.ob_scan.specs.declared.token.Kind.TheVariants.{Comma, Semicolon, End, Else, Elsif, Until}
 use Rattle.ob_scan.specs.declared.token.Token.{Token}
+use Rattle.ob_explain_names.specs.Kinds.{is_left, is_right}
 
 -- a token that stands behind a call
 abbrev pub ends_call : Kind → Bool
@@ -21,14 +22,6 @@ comma _ = 0
 unfoldable pub commas : List Token → ℕ
 commas [] = 0
 commas (t ∷ rest) = if ends_call t.kind then 0 else (comma t.kind + commas rest)
-
-unfoldable pub is_left : Kind → Bool
-is_left LeftParen = true
-is_left _ = false
-
-unfoldable pub is_right : Kind → Bool
-is_right RightParen = true
-is_right _ = false
 
 -- parentheses in which something stands
 abbrev pub opens_actuals : List Token → Bool

@@ -1,8 +1,9 @@
 -- The name of what an END closes.
 use Rattle.std.specs.Prelude.{ℕ, suc, ◌-◌, nat_le, Bool, true, false, List, [], ◌∷◌, Option, Some, None, if◌then◌else◌}
 use Rattle.ob_scan.specs.declared.token.Kind.{Kind}
-use Rattle.ob_scan.specs.declared.token.Kind.TheVariants.{Module, Procedure, Record, If, While, End}
+use Rattle.ob_scan.specs.declared.token.Kind.TheVariants.{Module, Procedure, Record, If, While}
 use Rattle.ob_scan.specs.declared.token.Token.{Token}
+use Rattle.ob_explain_names.specs.Kinds.{is_end}
 
 -- a token that opens what an END closes
 abbrev pub opens : Kind → Bool
@@ -13,15 +14,11 @@ opens If = true
 opens While = true
 opens _ = false
 
-abbrev pub closes : Kind → Bool
-closes End = true
-closes _ = false
-
 -- How many constructs that are closed begin before a token, where so many begin before the one behind it; none is told of the token that
 -- opens the last of them.
 abbrev pub closed_before : Kind → ℕ → Option ℕ
 closed_before kind closed =
-    if closes kind then Some (suc closed)
+    if is_end kind then Some (suc closed)
     else if opens kind then (if nat_le closed 1 then None else Some (closed - 1))
     else Some closed
 

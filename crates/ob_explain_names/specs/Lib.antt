@@ -1,7 +1,6 @@
 pub mod Actuals
 pub mod Around
 pub mod Declarations
-pub mod Declaring
 pub mod Ends
 pub mod Kinds
 pub mod Known

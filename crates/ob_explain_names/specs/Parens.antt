@@ -1,7 +1,7 @@
 -- Whether a place stands in parentheses.
 use Rattle.std.specs.Prelude.{◌||◌, Bool, false, List, find, Option, Some, None}
 use Rattle.ob_scan.specs.declared.token.Token.{Token}
-use Rattle.ob_explain_names.specs.Actuals.{is_left, is_right}
+use Rattle.ob_explain_names.specs.Kinds.{is_left, is_right}
 
 abbrev pub is_paren : Token → Bool
 is_paren t = is_left t.kind || is_right t.kind

@@ -1,8 +1,9 @@
 //! How many actuals a call has.
 
 ghost use Rattle.std.specs.Prelude.{◌≡◌, ◌≤◌, length};
-ghost use Rattle.ob_explain_names.specs.Actuals.{actual_count, comma, commas, ends_call, is_left, is_right, opens_actuals};
+ghost use Rattle.ob_explain_names.specs.Actuals.{actual_count, comma, commas, ends_call, opens_actuals};
 
+use crate::kinds::{is_left, is_right};
 use ob_scan::{Kind, Token};
 
 /// How many actuals stand behind the name of a call, of the tokens behind it.
@@ -25,22 +26,6 @@ fn opens_actuals(tokens: &[Token]) -> bool
         [first, second, ..] => { is_left(first.kind) && !is_right(second.kind) }
         _ => false,
     }
-}
-
-/// Whether a token is a `(`.
-#[tactic(auto, unfolding(crate::specs::Actuals::is_left))]
-pub fn is_left(kind: Kind) -> bool
-    ensures { result ≡ is_left kind }
-{
-    matches!(kind, Kind::LeftParen)
-}
-
-/// Whether a token is a `)`.
-#[tactic(auto, unfolding(crate::specs::Actuals::is_right))]
-pub fn is_right(kind: Kind) -> bool
-    ensures { result ≡ is_right kind }
-{
-    matches!(kind, Kind::RightParen)
 }
 
 /// How many commas stand before the end of the call.

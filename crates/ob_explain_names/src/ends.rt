@@ -1,8 +1,9 @@
 //! The name that stands behind an END.
 
 ghost use Rattle.std.specs.Prelude.{◌≡◌, ◌<◌, ◌^◌, None};
-ghost use Rattle.ob_explain_names.specs.Ends.{closed_before, closes, name_of_end, opens};
+ghost use Rattle.ob_explain_names.specs.Ends.{closed_before, name_of_end, opens};
 
+use crate::kinds::is_end;
 use ob_scan::{Kind, Token};
 
 /// The name of what the first END of these tokens closes, which stand before it and go back from it.
@@ -27,7 +28,7 @@ fn closed_before(kind: Kind, closed: usize) -> Option<usize>
     requires { closed < 2 ^ 63 }
     ensures { result ≡ closed_before kind closed }
 {
-    if closes(kind) {
+    if is_end(kind) {
         Some(closed + 1)
     } else if !opens(kind) {
         Some(closed)
@@ -38,7 +39,7 @@ fn closed_before(kind: Kind, closed: usize) -> Option<usize>
     }
 }
 
-/// Whether a token opens what an END closes.
+/// Whether a token opens what an END closes. A REPEAT, which UNTIL closes, is no such construct.
 fn opens(kind: Kind) -> bool
     ensures { result ≡ opens kind }
 {
@@ -46,11 +47,4 @@ fn opens(kind: Kind) -> bool
         kind,
         Kind::Module | Kind::Procedure | Kind::Record | Kind::If | Kind::While
     )
-}
-
-/// Whether a token closes such a construct. A REPEAT, which UNTIL closes, is none of them.
-pub fn closes(kind: Kind) -> bool
-    ensures { result ≡ closes kind }
-{
-    matches!(kind, Kind::End)
 }

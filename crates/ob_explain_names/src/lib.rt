@@ -7,7 +7,6 @@ pub mod actuals;
 pub mod around;
 pub mod declarations;
 pub mod declared;
-pub mod declaring;
 pub mod ends;
 pub mod kinds;
 pub mod known;

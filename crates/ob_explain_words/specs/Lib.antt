@@ -1,4 +1,5 @@
 pub mod Counts
+pub mod Declaring
 pub mod Distance
 pub mod Edits
 pub mod Kinds

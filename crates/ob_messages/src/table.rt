@@ -44,6 +44,8 @@ pub enum Fact {
     /// A name is meant to be a keyword, and it is the one before.
     Keyword,
     KeywordBefore,
+    /// The name with which the statement begins is meant to be a keyword.
+    KeywordFirst,
     /// The last token and the one there touch.
     Touching,
     /// The word before is one of another language; it names no array; it names a procedure; the text declares it.
@@ -59,6 +61,11 @@ pub enum Fact {
     Heading,
     /// It stands in no procedure and no statement.
     InModule,
+    /// A name stands there, behind it a `=`, and behind that a type; or what is no type, and the text does not declare the name.
+    BeginsType,
+    BeginsConstant,
+    /// A line ends behind the last but one token before it.
+    LineEnded,
     /// A `)` behind it closes what is open there.
     ClosedBehind,
     /// A BEGIN stands there, and the END that closes it has no name behind it.
@@ -102,10 +109,12 @@ pub enum Fact {
     Named,
     /// A constant, a type or a procedure of this name is declared further down.
     FurtherDown,
-    /// A field has this name; a variable of a procedure that has ended has it; the type has it in whose declaration it stands.
+    /// A field has this name; a variable of a procedure that has ended has it; the type has it in whose declaration it stands, or
+    /// something else has it in whose declaration it stands.
     Field,
     Elsewhere,
     OwnType,
+    OwnName,
     /// The word is a type of numbers of another language.
     NumberType,
     /// The name stands in a record; it is declared before.

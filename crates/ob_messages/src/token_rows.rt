@@ -100,6 +100,22 @@ const ACTUALS: &[Piece] = &[PieceOf::Text(
 
 const POINTER: &[Piece] = &[PieceOf::Text(NO_POINTER)];
 
+const VARIABLES: &[Piece] = &[PieceOf::Text(
+    "variables are declared behind VAR: VAR x, y: INTEGER",
+)];
+
+const TYPES: &[Piece] = &[PieceOf::Text(
+    "types are declared behind TYPE, which stands before VAR: TYPE T = ARRAY 4 OF INTEGER;",
+)];
+
+const CONSTANTS: &[Piece] = &[PieceOf::Text(
+    "constants are declared behind CONST, which stands before TYPE and VAR: CONST n = 4;",
+)];
+
+const ENDED_BY_DOT: &[Piece] = &[PieceOf::Text(
+    "a . stands before a field and at the end of the module; statements are separated by ;, and declarations end with it",
+)];
+
 const NO_BLOCK: &[Piece] = &[PieceOf::Text(
     "there are no blocks: in a body, and behind THEN, ELSE, DO and REPEAT, statements stand without a BEGIN of their own",
 )];
@@ -109,6 +125,8 @@ const NAME: &[Piece] = &[PieceOf::Text("a keyword is no name; take another one")
 const RANGE: &[Piece] = &[PieceOf::Text(
     "there are no ranges and no slices; one element is written a[i], and several are taken in a WHILE",
 )];
+
+const NO_RANGE: &[Piece] = &[PieceOf::Text("there are no ranges; the type of numbers is INTEGER")];
 
 const HANDED: &[Piece] = &[PieceOf::Text(
     "a variable is handed over by its name alone, as P(x); the VAR stands in the heading of P",
@@ -129,10 +147,13 @@ const FOREIGN_CALL: &[Piece] = &[PieceOf::Text(
 /// Names that are meant to be keywords, calls, and what stands behind a heading.
 pub const SIGN_ROWS: &[Row] = rows! {
     [Is(Fact::Keyword), Word(&["XOR"])] => &[PieceOf::Text("there is no XOR; of two BOOLEANs a # b says that one is TRUE and one is not")];
+    [Is(Fact::KeywordFirst)] =>
+        &[PieceOf::Text("is the name with which this statement begins meant to be "), PieceOf::Keyword, PieceOf::Text("?")];
     [Is(Fact::Keyword)] => &[PieceOf::Text("did you mean "), PieceOf::Keyword, PieceOf::Text("?")];
     [Here(&[Kind::Comma]), Could(&[Kind::RightBracket]), Is(Fact::CallBracket)] => ACTUALS;
     [Last(&[Kind::RightBracket]), Could(&[Kind::Assign]), Is(Fact::CallBracket)] => ACTUALS;
     [Here(&[Kind::Semicolon]), Could(&[Kind::RightParen]), Word(&["FOR", "FOREACH"])] => &[PieceOf::Text(NO_FOR)];
+    [Here(&[Kind::Assign, Kind::LeftParen]), Last(&[Kind::Ident]), Second(&[Kind::Dot]), Is(Fact::LineEnded)] => ENDED_BY_DOT;
     [Here(&[Kind::LeftParen]), Last(&[Kind::Ident]), Second(&[Kind::Dot]), Is(Fact::NoArray)] => FOREIGN_CALL;
     [Here(&[Kind::LeftParen]), Could(&[Kind::LeftBracket]), Word(&["INTEGER", "BOOLEAN", "INT", "BOOL"])] => &[PieceOf::Text(
         "no type is made into another one; a BOOLEAN gives a number by IF b THEN x := 1 ELSE x := 0 END",
@@ -200,7 +221,9 @@ pub const STATEMENT_ROWS: &[Row] = rows! {
         Could(&[Kind::Ident]),
         Never(&[Kind::Number])
     ] => NAME;
-    [Here(&[Kind::Colon]), Last(&[Kind::Begin, Kind::End, Kind::Procedure, Kind::Const, Kind::Type, Kind::Var])] =>
+    [Here(&[Kind::Colon]), Last(&[Kind::Const, Kind::Type, Kind::Var])] =>
+        &[PieceOf::Text("no : stands behind CONST, TYPE and VAR; a variable is declared as in VAR x: INTEGER")];
+    [Here(&[Kind::Colon, Kind::Equal]), Last(&[Kind::Begin, Kind::End, Kind::Procedure])] =>
         &[PieceOf::Text("the keyword before it is no name; take another one")];
     [Here(&[Kind::Begin]), Last(&[Kind::Then, Kind::Else, Kind::Do, Kind::Repeat])] => NO_BLOCK;
     [Here(&[Kind::Begin]), Could(&[Kind::While]), Is(Fact::Block)] => NO_BLOCK;
@@ -225,6 +248,13 @@ pub const STATEMENT_ROWS: &[Row] = rows! {
         &[PieceOf::Text(":= is one symbol, with no blank in it")];
     [Here(&[Kind::Dot]), Last(&[Kind::Number]), Next(&[Kind::Number])] =>
         &[PieceOf::Text(NO_REAL)];
+    [
+        Here(&[Kind::End, Kind::If, Kind::While, Kind::Repeat, Kind::Until, Kind::Else, Kind::Elsif]),
+        Last(&[Kind::Dot]),
+        Could(&[Kind::Ident])
+    ] => ENDED_BY_DOT;
+    [Sign(".\n"), Could(&[Kind::Semicolon])] => ENDED_BY_DOT;
+    [Sign(".\r"), Could(&[Kind::Semicolon])] => ENDED_BY_DOT;
 };
 
 /// What separates statements and actuals, expressions as statements, parentheses, and words that stand between operands.
@@ -280,7 +310,10 @@ pub const TYPE_TOKEN_ROWS: &[Row] = rows! {
     [Here(&[Kind::LeftParen]), Last(&[Kind::Record])] => &[PieceOf::Text("no record extends another one; it has its own fields alone")];
     [Here(&[Kind::LeftParen]), Could(&[Kind::Array])] =>
         &[PieceOf::Text("there are no enumerations; declare constants, as CONST red = 0; green = 1, and the variable as an INTEGER")];
-    [Here(&[Kind::Number]), Could(&[Kind::Array])] => &[PieceOf::Text("there are no ranges; the type of numbers is INTEGER")];
+    [Here(&[Kind::Number]), Next(&[Kind::Dot]), Could(&[Kind::Array])] => NO_RANGE;
+    [Here(&[Kind::Number, Kind::Minus]), Last(&[Kind::Equal]), Could(&[Kind::Array])] => CONSTANTS;
+    [Here(&[Kind::Array, Kind::Record]), Last(&[Kind::Equal]), Could(&[Kind::Number])] => TYPES;
+    [Here(&[Kind::Number]), Could(&[Kind::Array])] => NO_RANGE;
     [Here(&[Kind::Times, Kind::And]), Could(&[Kind::Array])] => POINTER;
     [Here(&[Kind::LeftBracket]), Could(&[Kind::Array])] => ARRAY_TYPE;
     [Here(&[Kind::Of]), Last(&[Kind::Array]), Is(Fact::InParens)] =>
@@ -295,12 +328,24 @@ pub const TYPE_TOKEN_ROWS: &[Row] = rows! {
 /// Tokens in declarations and behind them, and actuals without parentheses.
 pub const DECLARATION_ROWS: &[Row] = rows! {
     [Here(&[Kind::Assign, Kind::LeftParen, Kind::LeftBracket, Kind::Dot]), Could(&[Kind::Colon]), Is(Fact::DeclaredBefore)] => NO_BEGIN;
+    [
+        Here(&[Kind::Assign, Kind::LeftParen, Kind::LeftBracket, Kind::Dot]),
+        Could(&[Kind::Equal]),
+        Never(&[Kind::Less]),
+        Is(Fact::DeclaredBefore)
+    ] => NO_BEGIN;
+    [Here(&[Kind::Semicolon, Kind::End]), Could(&[Kind::Colon]), Is(Fact::BehindCall)] => NO_BEGIN;
+    [Here(&[Kind::Equal]), Could(&[Kind::Colon]), Next(&[Kind::Array, Kind::Record]), Not(Fact::StillOpen)] => TYPES;
     [Here(&[Kind::LeftBracket]), Could(&[Kind::Colon])] => ARRAY_TYPE;
     [Here(&[Kind::LeftBracket]), Last(&[Kind::Ident]), Second(&[Kind::Colon, Kind::Of])] => ARRAY_TYPE;
     [Here(&[Kind::LeftBracket, Kind::Of]), Last(&[Kind::Array])] => ARRAY_TYPE;
     [Here(&[Kind::Dot]), Could(&[Kind::Of]), Next(&[Kind::Dot])] => ARRAY_TYPE;
-    [Here(&[Kind::Equal, Kind::Assign]), Could(&[Kind::Colon])] => NO_VALUE;
+    [Here(&[Kind::Equal, Kind::Assign]), Could(&[Kind::Colon]), Not(Fact::StillOpen)] => NO_VALUE;
     [Here(&[Kind::Equal, Kind::Assign]), Last(&[Kind::Ident]), Second(&[Kind::Colon, Kind::Of])] => NO_VALUE;
+    [Here(&[Kind::Comma]), Second(&[Kind::Semicolon]), Could(&[Kind::Equal]), Never(&[Kind::Less])] => VARIABLES;
+    [Here(&[Kind::Colon]), Second(&[Kind::Semicolon]), Could(&[Kind::Equal]), Never(&[Kind::Less])] => &[PieceOf::Text(
+        "behind the name of a constant or of a type stands =; variables are declared behind VAR: VAR x, y: INTEGER",
+    )];
     [Here(&[Kind::Colon]), Could(&[Kind::Equal]), Never(&[Kind::Less])] =>
         &[PieceOf::Text("behind the name of a constant or of a type stands =")];
     [Here(&[Kind::Times]), Last(&[Kind::Procedure])] =>
@@ -315,8 +360,9 @@ pub const DECLARATION_ROWS: &[Row] = rows! {
     [Here(&[Kind::Ident]), Could(&[Kind::Colon]), Is(Fact::TypeBefore)] =>
         &[PieceOf::Text("a name stands before its type: x: INTEGER")];
     [Here(&[Kind::Ident]), Could(&[Kind::Colon]), Is(Fact::TypeThere)] => NO_TYPE;
-    [Here(&[Kind::Ident]), Could(&[Kind::Var]), Next(&[Kind::Colon, Kind::Comma])] =>
-        &[PieceOf::Text("variables are declared behind VAR: VAR x, y: INTEGER")];
+    [Here(&[Kind::Ident]), Could(&[Kind::Var]), Next(&[Kind::Colon, Kind::Comma])] => VARIABLES;
+    [Is(Fact::BeginsType), Could(&[Kind::Type])] => TYPES;
+    [Is(Fact::BeginsConstant), Could(&[Kind::Const])] => CONSTANTS;
     [Here(&[Kind::Ident]), Could(&[Kind::Var]), Is(Fact::TypeThere)] =>
         &[PieceOf::Text("a variable is declared behind VAR, its name before its type: VAR x: INTEGER")];
     [
@@ -325,6 +371,10 @@ pub const DECLARATION_ROWS: &[Row] = rows! {
         Next(&[Kind::Assign, Kind::LeftParen, Kind::LeftBracket, Kind::Dot])
     ] => NO_BEGIN;
     [Here(&[Kind::Ident]), Could(&[Kind::Begin]), Next(&[Kind::Semicolon, Kind::End]), Not(Fact::Actual)] => NO_BEGIN;
+    [Here(&[Kind::Ident]), Could(&[Kind::Begin]), Next(&[Kind::Colon, Kind::Comma])] => ORDER;
+    [Is(Fact::BeginsType), Could(&[Kind::Begin])] => ORDER;
+    [Is(Fact::BeginsConstant), Could(&[Kind::Begin])] => ORDER;
+    [Here(&[Kind::Ident]), Could(&[Kind::Begin]), Next(&[Kind::Equal])] => NO_BEGIN;
     [Here(&[Kind::Const, Kind::Type, Kind::Var]), Could(&[Kind::Begin])] => ORDER;
     [Here(&[Kind::Const, Kind::Type, Kind::Var]), Could(&[Kind::While])] => ORDER;
     [Here(&[Kind::If, Kind::While, Kind::Repeat]), Could(&[Kind::Begin])] => NO_BEGIN;
@@ -352,6 +402,8 @@ pub const RULE_ROWS: &[Row] = rows! {
         ])
     ] => NO_FUNCTION;
     [On(Number::C3), Is(Fact::Procedure), Next(&[Kind::Assign])] => NO_FUNCTION;
+    [On(Number::C3), Sign(".\n")] => ENDED_BY_DOT;
+    [On(Number::C3), Sign(".\r")] => ENDED_BY_DOT;
     [On(Number::C3), Here(&[Kind::LeftBracket]), Is(Fact::RecordBefore)] => &[PieceOf::Text("a field is written r.f")];
     [On(Number::C3), Here(&[Kind::Dot]), Is(Fact::ArrayBefore), Word(&["LENGTH", "LEN", "SIZE", "COUNT"])] => &[PieceOf::Text(
         "the length of an array is the number in its type; declare it as CONST n = 4, and the type as ARRAY n OF INTEGER",

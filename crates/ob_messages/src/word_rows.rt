@@ -1,6 +1,6 @@
 //! Hints on bytes that begin no token, and on words of other languages.
 
-use crate::table::WhenOf::{Could, Here, Is, Last, Second, Sign, Word};
+use crate::table::WhenOf::{Could, Here, Is, Last, Next, Second, Sign, Word};
 use crate::table::{Fact, PieceOf, Row};
 use ob_scan::Kind;
 
@@ -27,7 +27,20 @@ pub const NO_POINTER: &str =
     "there are no pointers; write an array of records, and an index in place of a pointer";
 
 /// On procedures of other languages.
-const PROCEDURE_FORM: &str = "a procedure is written PROCEDURE P(k: INTEGER); BEGIN .. END P;";
+const PROCEDURE_FORM: &str =
+    "a procedure begins with PROCEDURE, in capitals: PROCEDURE P(k: INTEGER); BEGIN .. END P;";
+
+/// The words with which they begin.
+const PROCEDURE_WORDS: &[&str] = &[
+    "PROCEDURE",
+    "FUNCTION",
+    "FUNC",
+    "DEF",
+    "FN",
+    "VOID",
+    "PROC",
+    "SUB",
+];
 
 const RECORD_FORM: &str =
     "a record type is declared behind TYPE: TYPE R = RECORD x, y: INTEGER END;";
@@ -130,8 +143,10 @@ pub const PLACED_WORD_ROWS: &[Row] = rows! {
         "a parameter that gives a value stands behind VAR: VAR x: INTEGER";
     [Word(&["CONST", "IN", "VAL"]), Last(&[Kind::Ident]), Is(Fact::InParens), Could(&[Kind::Colon])] =>
         "a parameter without VAR has its name and its type alone, as x: INTEGER; what is handed over is copied";
-    [Word(&["DEF", "FUNC", "FN", "VOID", "PROC", "SUB"]), Could(&[Kind::Procedure])] => PROCEDURE_FORM;
-    [Word(&["DEF", "FUNC", "FN", "VOID", "PROC", "SUB"]), Last(&[Kind::Ident]), Second(&[Kind::Semicolon]), Could(&[Kind::Colon])] =>
+    [Word(PROCEDURE_WORDS), Here(&[Kind::Ident]), Next(&[Kind::Ident]), Could(&[Kind::Procedure])] => PROCEDURE_FORM;
+    [Word(PROCEDURE_WORDS), Here(&[Kind::Ident]), Last(&[Kind::Ident]), Second(&[Kind::Semicolon]), Could(&[Kind::Colon])] =>
+        PROCEDURE_FORM;
+    [Word(PROCEDURE_WORDS), Here(&[Kind::Ident]), Last(&[Kind::Ident]), Second(&[Kind::Semicolon]), Could(&[Kind::Equal])] =>
         PROCEDURE_FORM;
     [Word(&["EXPORT", "PUBLIC"]), Could(&[Kind::Procedure])] => "a procedure that is exported has a * behind its name: PROCEDURE Get*";
     [Word(&["LET", "DIM", "VAL"]), Could(&[Kind::Procedure])] => DECLARATIONS;
@@ -151,6 +166,7 @@ pub const NAME_ROWS: &[Row] = rows! {
     [Is(Fact::FurtherDown)] => "this name is declared further down; it is known only behind its declaration";
     [Is(Fact::OwnType)] =>
         "no type has a part of its own type, and there are no pointers; write an array of records, and an index in place of a pointer";
+    [Is(Fact::OwnName)] => "this name is the one that is being declared, and it is known only behind its declaration";
     [Is(Fact::Field)] => "a field has this name, and a field is written behind its record, as r.f";
     [Is(Fact::Elsewhere)] => "a procedure before has a variable of this name, which is known only in that procedure";
     [Word(&["INC"])] => "there is no INC; write x := x + 1";

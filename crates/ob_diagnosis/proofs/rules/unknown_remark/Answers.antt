@@ -8,6 +8,7 @@ told-requires c = record {
   elsewhere = c.is_elsewhere.result;
   number_type = c.is_number_type.result;
   own_type = c.is_own_type.result;
+  own_name = c.is_own_name.result;
   name = rw (c.bytes_of.ensures, c.in_ok-near.ensures) refl;
   noted = rw (c.of_facts.ensures, c.deref.ensures.value, c.in_ok-facts.ensures, c.is_near.ensures, c.in_ok-near.ensures) refl;
 }

@@ -1,7 +1,7 @@
 -- What is left of the tokens says whether they are such a list.
 use Rattle.std.proofs.Common.{◌≡◌, length}
-use Rattle.ob_explain_names.specs.Declaring.{is_listed}
-use Rattle.ob_explain_names.proofs.declaring.is_listed.Given as goal
+use Rattle.ob_explain_words.specs.Declaring.{is_listed}
+use Rattle.ob_explain_words.proofs.declaring.is_listed.Given as goal
 
 abbrev pub invariant-loop-tokens : goal.invariant-loop-tokens
 invariant-loop-tokens l = is_listed l.tokens ≡ is_listed l.initial.tokens
