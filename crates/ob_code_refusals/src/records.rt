@@ -41,7 +41,7 @@ fn add_numbers(machine: &Machine<CodeEngine>, text: &mut String) -> Result<(), T
     add_number(text, "inside", spent.inside)?;
     add_number(text, "outside", spent.outside)?;
     add_number(text, "bound", machine.bound())?;
-    add_number(text, "table", machine.table_words() as u128)?;
+    add_number(text, "table", machine.shared().table_words() as u128)?;
     add_words(text, "copied", machine.state_words()?.as_slice())?;
     add_words(text, "lent", machine.variables())?;
     Ok(())

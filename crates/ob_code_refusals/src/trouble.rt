@@ -4,7 +4,7 @@ use ob_desk_floor::CloseFault;
 use ob_interface::NoMemory;
 use ob_object_perform::PerformFault;
 use std::alloc::AllocError;
-use wf_object::NewFault;
+use wf_object::CellFault;
 
 /// Why there is nothing to print.
 #[derive(Clone, Copy)]
@@ -49,11 +49,11 @@ impl From<NoMemory> for Trouble {
     }
 }
 
-impl From<NewFault> for Trouble {
-    fn from(fault: NewFault) -> Trouble {
+impl From<CellFault> for Trouble {
+    fn from(fault: CellFault) -> Trouble {
         match fault {
-            NewFault::NoMemory => Trouble::Own,
-            NewFault::Processes => Trouble::Texts,
+            CellFault::NoMemory => Trouble::Own,
+            CellFault::Processes => Trouble::Texts,
         }
     }
 }

@@ -12,7 +12,7 @@ use ob_interface::NoMemory;
 use std::alloc::Global;
 use std::marker::Model;
 use std::sync::Arc;
-use wf_object::{Engine, Machine, NewFault, Seen, StepOut, Turns};
+use wf_object::{CellFault, Engine, Machine, Seen, StepOut, Turns};
 use wf_theorems::runs::every_turn;
 
 /// A machine, whether the values with which it began were carried over, the calls that were submitted to it before any step,
@@ -92,8 +92,8 @@ impl<E: Engine> Floor<E> {
     {
         let mut machine = match Machine::new(alloc, engine, n, opening.words.as_slice()) {
             Ok(machine) => machine,
-            Err(NewFault::NoMemory) => return Err(NoMemory),
-            Err(NewFault::Processes) => unreachable!(),
+            Err(CellFault::NoMemory) => return Err(NoMemory),
+            Err(CellFault::Processes) => unreachable!(),
         };
         submit_all(alloc, &mut machine, scripts.as_slice())?;
         let counts = vec![in alloc; 0; n]?;

@@ -1,6 +1,5 @@
 pub mod Packed
 pub mod Shown
-pub mod Faults
 pub mod View
 pub mod Kept
 pub mod Halted

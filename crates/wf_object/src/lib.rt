@@ -4,7 +4,6 @@
 mod blocks;
 mod bodies;
 pub mod engine;
-pub mod fault;
 pub mod machine;
 pub mod process;
 mod rows;
@@ -13,7 +12,7 @@ mod start;
 mod steps;
 
 pub use engine::Engine;
-pub use fault::NewFault;
+pub use ll_cell::CellFault;
 pub use machine::Machine;
 pub use process::Process;
 pub use wf_records::{Seen, StepOut};

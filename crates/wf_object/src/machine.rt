@@ -2,27 +2,21 @@
 
 ghost use Rattle.std.specs.Prelude.{true, false, ◌≡◌, ◌+◌, ◌*◌, ◌<◌, ◌≤◌, ◌⊎◌, ◌↔◌, [], ◌++◌, ◌∷◌};
 ghost use Rattle.std.specs.Prelude.{List, Contains, replicate, IfOk, OnOk, OnErr, length, slice_get, Some};
-ghost use Rattle.ll_cell.specs.Form.{kept_words};
-ghost use Rattle.wf_object.specs.Packed.{packed};
 ghost use Rattle.ob_interface.specs.View.{call_of};
-ghost use Rattle.wf_object.specs.declared.fault.NewFault.TheVariants as Faults;
+ghost use Rattle.ll_cell.specs.declared.fault.CellFault.TheVariants as Faults;
 ghost use Rattle.wf_object.specs.View.{answer_in, seen_in, variables_of};
 ghost use Rattle.wf_object.specs.InARow.{AreInBody, AreQuiet, object_after, stepped};
 ghost use Rattle.wf_object.specs.Quiet.{is_quiet};
 ghost use Rattle.wf_table.specs.declared.process.Label.TheVariants as Labels;
-ghost use Rattle.wf_table.specs.Ranges.{IsSized, IsShaped, IsInRange};
-ghost use Rattle.wf_table.specs.Table.{cell_after, row};
-ghost use Rattle.wf_table.specs.Toggles.{StoresBit};
 
 use crate::bodies::stay;
 use crate::engine::Engine;
-use crate::fault::NewFault;
 use crate::process::Process;
 use crate::rows::take_rows;
 use crate::seen::{is_quiet, show_step};
 use crate::start::{idle, opened};
-use crate::steps::{act, flip};
-use ll_cell::Shared;
+use crate::steps::act;
+use ll_cell::{CellFault, Shared};
 use ob_interface::call::Call;
 use ob_interface::{MOST_PROCESSES, NoMemory};
 use std::alloc::Global;
@@ -46,7 +40,7 @@ pub struct Machine<E: Engine> {
 }
 
 impl<E: Engine> Model for Machine<E> {
-    ghost use Rattle.wf_table.specs.Object.{step_of, answer_of, submit_of, label_of, script_of};
+    ghost use Rattle.wf_table.specs.Object.{answer_of, submit_of, label_of, script_of};
     ghost use Rattle.wf_object.specs.View.{Object, object_view};
     ghost use Rattle.wf_object.specs.Kept.{IsKeptOver};
 
@@ -77,7 +71,7 @@ impl<E: Engine> Machine<E> {
     ghost use Rattle.ob_interface.specs.Processes.{most_processes};
 
     /// An object of n processes with a lawful block of variable words; no process has a call yet.
-    pub fn new(alloc: Global, engine: E, n: usize, block: &[i64]) -> Result<Self, NewFault>
+    pub fn new(alloc: Global, engine: E, n: usize, block: &[i64]) -> Result<Self, CellFault>
         requires { E.lawful engine block.now }
         ensures processes { (result ≡ Err Faults.Processes) ↔ ((n ≡ 0) ⊎ (most_processes < n)) }
         ensures engine { IfOk result (λ m. m.engine ≡ engine) }
@@ -87,7 +81,7 @@ impl<E: Engine> Machine<E> {
         ensures state { IfOk result (λ m. IsStart (E.ready engine) (sizes_of (E.meaning engine) n) block.now m.state) }
     {
         if n == 0 || n > MOST_PROCESSES {
-            return Err(NewFault::Processes);
+            return Err(CellFault::Processes);
         }
         let sizes = Sizes {
             processes: n,
@@ -97,8 +91,10 @@ impl<E: Engine> Machine<E> {
         };
         let opening = block.to_vec(alloc)?;
         let shared = opened(alloc, sizes, block)?;
-        let processes = idle(alloc, &engine, sizes)?;
-        let records = Records::new(alloc, n)?;
+        let (Ok(processes), Ok(records)) = (idle(alloc, &engine, sizes), Records::new(alloc, n))
+        else {
+            return Err(CellFault::NoMemory);
+        };
         let unspent = Spent {
             bodies: 0,
             inside: 0,
@@ -147,20 +143,6 @@ impl<E: Engine> Machine<E> {
             self.step_quietly(p)?;
             return Ok(StepOut::On);
         }
-        self.step_loudly(p)
-    }
-
-    /// A step that shows something, with room for an event.
-    #[inline(never)]
-    fn step_loudly(&mut self, p: usize) -> Result<StepOut, NoMemory>
-        requires process { p < self.old.sizes.processes }
-        requires shows { is_quiet (label_of self.old.state p) ≡ false }
-        ensures stepped { OnOk result (self.new ≡ stepped (E.meaning self.old.engine) p self.old) }
-        ensures answer { IfOk result (λ out. answer_in out ≡ answer_of (E.meaning self.old.engine) self.old.sizes self.old.state p) }
-        ensures turn { OnOk result (steps_of self.new.state.records.schedule ≡ steps_of self.old.state.records.schedule ++ p ∷ []) }
-        ensures few { IfOk result (λ out. length (values_answered (answer_in out)) ≤ 8) }
-        ensures err { OnErr result (self.new ≡ self.old) }
-    {
         self.take_loudly(p)
     }
 
@@ -227,8 +209,7 @@ impl<E: Engine> Machine<E> {
         self.records.note_quiet(p, label)?;
         let spent = &mut self.spent[p];
         count_step(spent, label, false);
-        act_at(
-            label,
+        act(
             &self.engine,
             self.sizes,
             &mut self.shared,
@@ -363,7 +344,7 @@ impl<E: Engine> Machine<E> {
         ensures { result ≡ is_halted self.now.state p }
     {
         let own = &self.processes[p];
-        own.label == Label::Next && !own.has_more()
+        own.label == Label::Next && !(own.begun < own.calls.len())
     }
 
     /// How many processes there are, and the words of variables, replies and calls.
@@ -449,13 +430,6 @@ impl<E: Engine> Machine<E> {
         Ok(self.variables().to_vec(self.alloc)?)
     }
 
-    /// How many words of all blocks are kept as words; their toggles are kept as bits.
-    pub fn table_words(&self) -> usize
-        ensures { result ≡ kept_words (packed self.now.sizes) * (self.now.sizes.processes + 1) }
-    {
-        self.shared.table_words()
-    }
-
     /// The engine, the history, the order and the schedule.
     pub fn into_parts(self) -> (E, History, Vec<CallId>, Vec<Turns>)
         ensures engine { result.0 ≡ self.engine }
@@ -476,37 +450,4 @@ impl<E: Engine> Machine<E> {
         let (history, order, schedule) = records.into_parts();
         (engine, history, order, schedule)
     }
-}
-
-/// One step of the process on the cell, at the label where it stands, which shows nothing. FLIP goes first: it is never among steps
-/// that are taken many at once.
-#[inline(always)]
-fn act_at<E: Engine>(
-    label: Label,
-    engine: &E,
-    z: Sizes,
-    shared: &mut Shared,
-    q: &mut Process<E::Run>,
-    p: usize,
-)
-    requires here { q.old.label ≡ label }
-    requires sized { IsSized z }
-    requires shaped { IsShaped z shared.old.cell }
-    requires packed { shared.old.form ≡ packed z }
-    requires process { p < z.processes }
-    requires in_range { IsInRange z q.old }
-    requires quiet { is_quiet q.old.label ≡ true }
-    requires variables { z.variables ≡ (E.meaning engine.now).variables }
-    requires replies { z.replies ≡ (E.meaning engine.now).replies }
-    requires arguments { z.arguments ≡ (E.meaning engine.now).arguments }
-    requires ready { E.ready engine.now q.old.run }
-    requires stores_bit { StoresBit z q.old }
-    ensures cell { shared.new.cell ≡ cell_after shared.old.cell p (row q.old.label (E.meaning engine.now) z shared.old.cell p q.old).change }
-    ensures form { shared.new.form ≡ shared.old.form }
-    ensures process { q.new ≡ (row q.old.label (E.meaning engine.now) z shared.old.cell p q.old).process }
-{
-    if label == Label::Flip {
-        return flip(z, shared, q, p);
-    }
-    act(engine, z, shared, q, p);
 }

@@ -33,7 +33,6 @@ impl<R> Model for Process<R> {
 }
 
 impl<R> Process<R> {
-    ghost use Rattle.wf_table.specs.Spent.{has_more};
     ghost use Rattle.std.specs.Prelude.{◌≡◌, OnOk, OnErr, IfOk, length, ◌++◌, ◌∷◌, []};
     ghost use Rattle.ob_interface.specs.View.{call_of};
 
@@ -94,19 +93,5 @@ impl<R> Process<R> {
         ensures { result.now ≡ self.now.save }
     {
         self.save.as_slice()
-    }
-
-    /// The engine's run of its body.
-    pub fn run(&self) -> &R
-        ensures { result.now ≡ self.now.run }
-    {
-        &self.run
-    }
-
-    /// Calls of the script have not begun.
-    pub fn has_more(&self) -> bool
-        ensures { result ≡ has_more self.now }
-    {
-        self.begun < self.calls.len()
     }
 }

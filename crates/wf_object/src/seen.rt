@@ -257,16 +257,5 @@ fn differs(z: Sizes, shared: &Shared, p: usize, q: usize) -> bool
     requires other { q < z.processes }
     ensures { result ≡ not (int_eq (toggle_in z (block_of shared.now.cell shared.now.cell.root) q) (toggle_in z (own_block shared.now.cell p) q)) }
 {
-    root_toggle(z, shared, q) != own_toggle(z, shared, p, q)
-}
-
-#[inline(always)]
-fn root_toggle(z: Sizes, shared: &Shared, q: usize) -> i64
-    requires sized { IsSized z }
-    requires shaped { IsShaped z shared.now.cell }
-    requires packed { shared.now.form ≡ packed z }
-    requires other { q < z.processes }
-    ensures { result ≡ toggle_in z (block_of shared.now.cell shared.now.cell.root) q }
-{
-    shared.read_part(shared.root(), q, z.replies + 1)
+    shared.read_part(shared.root(), q, z.replies + 1) != own_toggle(z, shared, p, q)
 }

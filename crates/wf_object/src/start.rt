@@ -3,22 +3,21 @@
 ghost use Rattle.std.specs.Prelude.{◌≡◌, ◌+◌, ◌<◌, ◌≤◌, ◌^◌, IfOk, IfErr, length};
 ghost use Rattle.ll_cell.specs.Cell.{own_of, block_of, refill_own};
 ghost use Rattle.wf_object.specs.Packed.{packed};
-ghost use Rattle.wf_object.specs.declared.fault.NewFault.TheVariants as Faults;
+ghost use Rattle.ll_cell.specs.declared.fault.CellFault.TheVariants as Faults;
 ghost use Rattle.wf_table.specs.Ranges.{IsSized};
 ghost use Rattle.wf_table.specs.Start.{cell_at_start, IsIdle};
 ghost use Rattle.wf_table.specs.Each.{Each};
 
 use crate::engine::Engine;
-use crate::fault::NewFault;
 use crate::process::Process;
-use ll_cell::Shared;
+use ll_cell::{CellFault, Shared};
 use ob_interface::NoMemory;
 use std::alloc::Global;
 use wf_records::CallList;
 use wf_table::{Label, Registers, Sizes};
 
 /// The cell with these words in its root: they enter by process 0's own block and one exchange.
-pub fn opened(alloc: Global, z: Sizes, block: &[i64]) -> Result<Shared, NewFault>
+pub fn opened(alloc: Global, z: Sizes, block: &[i64]) -> Result<Shared, CellFault>
     requires sized { IsSized z }
     requires words { length block.now ≡ z.variables }
     ensures cell { IfOk result (λ shared. shared.cell ≡ cell_at_start z block.now) }

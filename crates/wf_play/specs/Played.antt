@@ -13,8 +13,8 @@ use Rattle.wf_table.specs.Object.{State}
 use Rattle.wf_table.specs.Runs.{IsRun, performed, run, submissions}
 use Rattle.wf_table.specs.Schedule.{steps_of}
 use Rattle.wf_table.specs.Start.{IsStart, sizes_of}
-use Rattle.wf_object.specs.declared.fault.NewFault.{NewFault}
-use Rattle.wf_object.specs.declared.fault.NewFault.TheVariants as New
+use Rattle.ll_cell.specs.declared.fault.CellFault.{CellFault}
+use Rattle.ll_cell.specs.declared.fault.CellFault.TheVariants as New
 use Rattle.wf_play.specs.declared.playing.PlayFault.{PlayFault}
 use Rattle.wf_play.specs.declared.playing.PlayFault.TheVariants as Faults
 use Rattle.wf_play.specs.ItemSteps.{AreItemSteps, IsFirstBeyond}
@@ -69,6 +69,6 @@ IsItemFault m z limit items s (Faults.TooLong number) = IsFirstBeyond m z limit 
 IsItemFault m z limit items s Faults.NoMemory = Unit {0}
 
 -- why there is no machine, as a fault of a run
-abbrev pub of_new : NewFault → PlayFault
+abbrev pub of_new : CellFault → PlayFault
 of_new New.Processes = Faults.Processes
 of_new New.NoMemory = Faults.NoMemory

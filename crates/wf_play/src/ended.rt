@@ -10,7 +10,7 @@ use ob_interface::NoMemory;
 use ob_text_words::script_call::ScriptCall;
 use std::alloc::Global;
 use wf_history::CallId;
-use wf_object::{Engine, Machine, NewFault, Spent, StepOut, Turns};
+use wf_object::{CellFault, Engine, Machine, Spent, StepOut, Turns};
 
 /// A call that ended, and how many own steps its process took for it; 2^128 - 1 where they are more.
 #[derive(Clone, Copy)]
@@ -39,8 +39,8 @@ pub fn ended_calls<E: Engine>(
 {
     let mut machine = match Machine::new(alloc, engine, n, opening) {
         Ok(machine) => machine,
-        Err(NewFault::NoMemory) => return Err(NoMemory),
-        Err(NewFault::Processes) => unreachable!(),
+        Err(CellFault::NoMemory) => return Err(NoMemory),
+        Err(CellFault::Processes) => unreachable!(),
     };
     submit_all(alloc, &mut machine, calls)?;
     let mut ended = Vec::new(alloc);

@@ -18,7 +18,7 @@ use ob_text_words::script_call::ScriptCall;
 use smallvec::SmallVec;
 use std::alloc::{AllocError, Global};
 use thiserror::Error;
-use wf_object::{Engine, Machine, NewFault};
+use wf_object::{CellFault, Engine, Machine};
 
 /// The most steps of an item.
 const MOST_STEPS: u64 = 1_000_000;
@@ -37,16 +37,16 @@ pub enum PlayFault {
     NoMemory,
 }
 
-impl From<NewFault> for PlayFault {
+impl From<CellFault> for PlayFault {
     ghost use Rattle.std.specs.Prelude.{◌≡◌};
     ghost use Rattle.wf_play.specs.Played.{of_new};
 
     ghost from_gives = { λ e f. f ≡ of_new e };
 
-    fn from(fault: NewFault) -> PlayFault {
+    fn from(fault: CellFault) -> PlayFault {
         match fault {
-            NewFault::Processes => PlayFault::Processes,
-            NewFault::NoMemory => PlayFault::NoMemory,
+            CellFault::Processes => PlayFault::Processes,
+            CellFault::NoMemory => PlayFault::NoMemory,
         }
     }
 }

@@ -91,7 +91,7 @@ fn a_call_without_an_end_stays_open(rt: HostRuntime) -> Result<(), Fail> {
 #[test]
 fn toggles_take_no_words(rt: HostRuntime) -> Result<(), Fail> {
     let machine = adder(rt.alloc())?;
-    assert_eq!(rt; machine.table_words(), 15);
+    assert_eq!(rt; machine.shared().table_words(), 15);
     Ok(())
 }
 

@@ -20,10 +20,10 @@ invariant_of-result g c =
     let sized = few_words (e.meaning c.args.engine) (e.lawful c.args.engine) (e.fits c.args.engine) (e.ready c.args.engine) (e.effect c.args.engine) law z few some c.variable_words.ensures c.reply_words.ensures c.announce_words.ensures in
     let opening : c.in_ok-opening.opening.items ≡ c.args.block.now = search rules in
     let spent : c.in_ok-spent.spent.items ≡ replicate c.args.n unspent = search rules in
-    rw (spent, opening, c.in_ok-shared.ensures.cell, c.in_ok-records.ensures)
-    (start_kept (e.meaning c.args.engine) (e.lawful c.args.engine) (e.fits c.args.engine) (e.ready c.args.engine) (e.effect c.args.engine) law z c.args.block.now c.in_ok-processes.processes.items c.in_ok-shared.shared.form c.in_ok-shared.ensures.form c.requires sized c.variable_words.ensures c.reply_words.ensures c.announce_words.ensures c.in_ok-processes.ensures.count c.in_ok-processes.ensures.idle)
+    rw (spent, opening, c.in_ok-shared.ensures.cell, c.in-Ok-Ok.ensures')
+    (start_kept (e.meaning c.args.engine) (e.lawful c.args.engine) (e.fits c.args.engine) (e.ready c.args.engine) (e.effect c.args.engine) law z c.args.block.now c.in-Ok-Ok.processes.items c.in_ok-shared.shared.form c.in_ok-shared.ensures.form c.requires sized c.variable_words.ensures c.reply_words.ensures c.announce_words.ensures c.in-Ok-Ok.ensures.count c.in-Ok-Ok.ensures.idle)
 
 pub returns-clause-state : goal.returns-clause-state
 returns-clause-state g c =
     rw (← c.variable_words.ensures, ← c.reply_words.ensures, ← c.announce_words.ensures)
-    (record { cell = c.in_ok-shared.ensures.cell; count = c.in_ok-processes.ensures.count; idle = c.in_ok-processes.ensures.idle; records = c.in_ok-records.ensures })
+    (record { cell = c.in_ok-shared.ensures.cell; count = c.in-Ok-Ok.ensures.count; idle = c.in-Ok-Ok.ensures.idle; records = c.in-Ok-Ok.ensures' })

@@ -51,14 +51,14 @@ count_step-requires-clause-outside g c =
     let is : x ≡ spent_of s.spent.items c.args.p = sym (get_or_from_slice_get s.spent.items c.args.p x unspent (slice_get_read s.spent.items (length s.spent.items) c.args.p x refl count c.index_mut-spent.ensures.value)) in
     rw is (outside_room (g.E.Engine.meaning s.engine) s.sizes y _ kept.sound.sized (kept.sound.in_range _ _ also) (kept.spends.each _ _ also))
 
-pub act_at-requires-clause-in_range : goal.act_at-requires-clause-in_range
-act_at-requires-clause-in_range g c =
+pub act-requires-clause-in_range : goal.act-requires-clause-in_range
+act-requires-clause-in_range g c =
     let s = c.self.inside in
     let within : c.args.p < s.sizes.processes = rw (← c.self.view_is) at c.requires.process in
     c.self.invariant.sound.in_range _ _ (stands s.processes.items s.sizes.processes c.args.p c.index_mut.result.now c.self.invariant.sound.count within c.index_mut.ensures.value)
 
-pub act_at-requires-clause-quiet : goal.act_at-requires-clause-quiet
-act_at-requires-clause-quiet g c =
+pub act-requires-clause-quiet : goal.act-requires-clause-quiet
+act-requires-clause-quiet g c =
     let s = c.self.inside in
     let m = g.E.Engine.meaning s.engine in
     let within : c.args.p < s.sizes.processes = rw (← c.self.view_is) at c.requires.process in
@@ -67,14 +67,14 @@ act_at-requires-clause-quiet g c =
     let state : State _ = record { cell = s.shared.cell; processes = s.processes.items; records = s.records } in
     ap is_quiet (label_is m s.sizes state c.args.p x at) ∙ (rw (← c.self.view_is) at c.requires.quiet)
 
-pub act_at-requires-clause-ready : goal.act_at-requires-clause-ready
-act_at-requires-clause-ready g c =
+pub act-requires-clause-ready : goal.act-requires-clause-ready
+act-requires-clause-ready g c =
     let s = c.self.inside in
     let within : c.args.p < s.sizes.processes = rw (← c.self.view_is) at c.requires.process in
     c.self.invariant.sound.runs_ready _ _ (stands s.processes.items s.sizes.processes c.args.p c.index_mut.result.now c.self.invariant.sound.count within c.index_mut.ensures.value)
 
-pub act_at-requires-clause-stores_bit : goal.act_at-requires-clause-stores_bit
-act_at-requires-clause-stores_bit g c =
+pub act-requires-clause-stores_bit : goal.act-requires-clause-stores_bit
+act-requires-clause-stores_bit g c =
     let s = c.self.inside in
     let within : c.args.p < s.sizes.processes = rw (← c.self.view_is) at c.requires.process in
     c.self.invariant.sound.stores_bit _ _ (stands s.processes.items s.sizes.processes c.args.p c.index_mut.result.now c.self.invariant.sound.count within c.index_mut.ensures.value)
@@ -104,7 +104,7 @@ invariant_of-self-2 g c =
     ∙ ap (λ (k : Process _). spent_after k.label false (spent_of s.spent.items c.args.p)) c.process.view_is
     ∙ ap (λ (k : Process _). spent_after k.label false (spent_of s.spent.items c.args.p)) same
     ∙ counts_same x.label (has_more x) (spent_of s.spent.items c.args.p) quiet in
-    rw (c.act_at.ensures.cell, c.act_at.ensures.form, c.act_at.ensures.process, records, spends)
+    rw (c.act.ensures.cell, c.act.ensures.form, c.act.ensures.process, records, spends)
     (step_kept m (e.lawful s.engine) (e.fits s.engine) (e.ready s.engine) (e.effect s.engine) (g.met.E.Engine.law s.engine) s.sizes s.opening.items state c.args.p x at s.spent.items s.shared.form c.self.invariant)
 
 pub returns-clause-stepped : goal.returns-clause-stepped
@@ -132,7 +132,7 @@ returns-clause-stepped g c =
     ∙ ap (λ (k : Process _). spent_after k.label false (spent_of s.spent.items c.args.p)) c.process.view_is
     ∙ ap (λ (k : Process _). spent_after k.label false (spent_of s.spent.items c.args.p)) same
     ∙ counts_same x.label (has_more x) (spent_of s.spent.items c.args.p) quiet in
-    let moved = step_is m s.sizes state c.args.p x at c.act_at.new.shared.cell c.act_at.new.q c.note_quiet.new.self c.act_at.ensures.cell c.act_at.ensures.process records in
+    let moved = step_is m s.sizes state c.args.p x at c.act.new.shared.cell c.act.new.q c.note_quiet.new.self c.act.ensures.cell c.act.ensures.process records in
     let paid : set s.spent.items c.args.p c.count_step.new.spent ≡ spent_by_step state s.spent.items c.args.p =
     ap (λ (k : Spent). set s.spent.items c.args.p k) spends ∙ sym (ap (count_by spent_after unspent s.spent.items c.args.p) at) in
     rw (← c.self.view_is)
