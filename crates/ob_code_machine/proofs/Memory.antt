@@ -1,5 +1,5 @@
 -- The words that have an address are one list.
-use Rattle.std.proofs.Common.{◌≡◌, ℕ, ◌+◌, ◌-◌, ◌<◌, ◌≤◌, ltb, true, false, cond, ℤ, pos, List, ◌++◌, length, get_or, refl, sym, ap, ◌∙◌, ⊎_elim, arith}
+use Rattle.std.proofs.Common.{◌≡◌, ℕ, ◌+◌, ◌-◌, ◌^◌, ◌<◌, ◌≤◌, ltb, true, false, cond, ℤ, pos, List, ◌++◌, length, get_or, refl, sym, ap, ◌∙◌, ⊎_elim, arith}
 use Rattle.std.specs.Prelude.{slice_set}
 use Rattle.std.proofs.lemmas.Bool.{cases_lt}
 use Rattle.std.proofs.lemmas.Bool.Decides.{nat_tests}
@@ -7,6 +7,7 @@ use Rattle.std.proofs.lemmas.List.{get_or_append_left, get_or-append_right, set-
 use Rattle.ob_code_machine.specs.Words.{Made, Gives, Sticks}
 use Rattle.ob_code_machine.specs.Effect.{word_at}
 use Rattle.ob_code_machine.specs.Laws.{WritesOne, MemoryIsOneList}
+use Rattle.ob_code_machine.specs.Running.{IsLocalWord}
 
 below : (m n : ℕ) → m < n → ltb m n ≡ true
 below m n h = grind (arith, nat_tests)
@@ -27,6 +28,16 @@ nowhere : {A : Type 0} (block stack : List ℤ) (a : ℕ) (x y : Made A) → len
 nowhere block stack a x y h =
     ap (λ b. cond b x (cond (ltb (a - length block) (length stack)) y Sticks)) (not_below a (length block) (omega arith))
     ∙ ap (λ b. cond b y Sticks) (not_below (a - length block) (length stack) (omega arith))
+
+-- a word of the frame
+pub local_is : (block stack : List ℤ) (fp word : ℕ) → fp + word < length stack → length block < 2 ^ 62 → length stack < 2 ^ 32 → IsLocalWord block stack fp word (get_or stack (fp + word) (pos 0))
+local_is block stack fp word within few small =
+    let place = length block + fp + word in
+    let behind : place - length block ≡ fp + word = omega arith in (
+      ap (λ b. cond b (Gives (pos place)) Sticks) (below place (2 ^ 63) (omega arith)),
+      in_stack block stack place (Gives (get_or block place (pos 0))) (Gives (get_or stack (place - length block) (pos 0))) (omega arith) (omega arith)
+          ∙ ap (λ i. Gives (get_or stack i (pos 0))) behind,
+    )
 
 module _ (block stack : List ℤ) (a : ℕ) where
   reads_one : a < length block + length stack → word_at block stack (pos a) ≡ Gives (get_or (block ++ stack) a (pos 0))

@@ -1,10 +1,10 @@
 //! What an instruction without a jump does to the block and the stack.
 
-ghost use Rattle.std.specs.Prelude.{◌+◌, ◌≤◌, length, take, pos};
+ghost use Rattle.std.specs.Prelude.{◌+◌, ◌^◌, ◌<◌, ◌≤◌, IfSome, length, take, pos};
 ghost use Rattle.ob_code_machine.specs.declared.instr.Instr.{Instr};
 ghost use Rattle.ob_code_machine.specs.Words as Words;
 ghost use Rattle.ob_code_machine.specs.Effect as Effects;
-ghost use Rattle.ob_code_machine.specs.Running.{HasEffect, IsMade, LeavesBoth, LeavesStack};
+ghost use Rattle.ob_code_machine.specs.Running.{HasEffect, IsLocalWord, IsMade, LeavesBoth, LeavesStack};
 
 use crate::instr::Instr;
 use crate::operators::{Made, made_of_one, made_of_two};
@@ -32,7 +32,7 @@ pub fn push(stack: &mut Stack, word: i64) -> Answer
 
 /// The address of a word of the frame.
 #[inline(always)]
-pub(crate) fn local_address(variables: usize, fp: usize, word: u16) -> Option<i64>
+fn local_address(variables: usize, fp: usize, word: u16) -> Option<i64>
     ensures { IsMade result (Words.address (pos (variables + fp + word))) }
 {
     let place = variables.checked_add(fp)?.checked_add(usize::from(word))?;
@@ -40,6 +40,21 @@ pub(crate) fn local_address(variables: usize, fp: usize, word: u16) -> Option<i6
         return None;
     }
     Some(place as i64)
+}
+
+/// A word of the frame, where no address is made for it: what GET finds at the address that LOC makes.
+#[tactic(auto, using(crate::proofs::Memory::local_is))]
+#[inline(always)]
+pub(crate) fn local_word(block: &[i64], stack: &Stack, fp: usize, word: u16) -> Option<i64>
+    requires { length stack.now.words < 2 ^ 32 }
+    ensures { IfSome result (IsLocalWord block.now stack.now.words fp word) }
+{
+    let word = usize::from(word);
+    let height = stack.height();
+    if fp >= height || word >= height - fp || block.len() >= 1 << 62 {
+        return None;
+    }
+    Some(stack.word(fp + word))
 }
 
 /// Pushes the address of a word of the frame.

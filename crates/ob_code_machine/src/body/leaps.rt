@@ -7,7 +7,7 @@ ghost use Rattle.ob_code_machine.specs.declared.instr.Instr.TheVariants as Instr
 
 use super::Body;
 use crate::code::Code;
-use crate::effect::{local_address, word_at};
+use crate::effect::{local_word, word_at};
 use crate::instr::Instr;
 use crate::operators::{Made, made_of_one, made_of_two};
 use crate::turn::BodyTurn;
@@ -123,10 +123,10 @@ impl Body {
         requires { self.old.body.pc < 65535 }
         ensures { MakesBoth result (Instrs.Local word) Instrs.Get self.old self.new block.now }
     {
-        let Some(address) = local_address(block.len(), self.fp, word) else {
+        if self.stack.room() == 0 {
             return false;
-        };
-        match word_at(block, &self.stack, self.stack.height(), address) {
+        }
+        match local_word(block, &self.stack, self.fp, word) {
             Some(value) => self.bring(value),
             None => false,
         }
