@@ -9,6 +9,7 @@ use Rattle.clap.specs.ValueTests.{is_unsigned_in}
 use Rattle.clap.specs.Words.{Kinds, Row, fault_of, first_of, one_of, subcommand_of}
 use Rattle.clap.specs.declared.error.kind.ErrorKind.TheVariants as kind
 use Rattle.ob_command_line.specs.ClapCommand.{obl0_app}
+use Rattle.ob_command_line.specs.HelpWords.{asks_version, clap_words, extra_of_help}
 use Rattle.ob_command.specs.declared.command.CallNumbers.{CallNumbers}
 use Rattle.ob_command.specs.declared.command.OrderProduct.{OrderProduct}
 use Rattle.ob_command.specs.declared.command.OrderProduct.TheVariants.{Apart, Line, WholeRecord}
@@ -729,59 +730,6 @@ request_by (k ∷ others) met = Unclear
 
 unfoldable pub clap_request : List Text → Request
 clap_request words = request_by (fault_of obl0_app words) (subcommand_of obl0_app words)
-
--- the names of the commands
-abbrev pub command_names : List Text
-command_names =
-    codes "check" ∷ codes "list" ∷ codes "seq" ∷ codes "live" ∷ codes "run" ∷ codes "serve" ∷ codes "draw"
-    ∷ codes "outcomes" ∷ codes "state" ∷ codes "verify" ∷ codes "order" ∷ codes "explain" ∷ codes "bound" ∷ []
-
-abbrev pub is_command : Text → Bool
-is_command name = list_any (bytes_eq name) command_names
-
-abbrev pub is_version_option : Text → Bool
-is_version_option word = bytes_eq word (codes "--version") || bytes_eq word (codes "-V")
-
--- `version`, `--version` and `-V` ask for the version where they stand alone, and the last two behind the name of a command too
-abbrev pub asks_version : List Text → Bool
-asks_version (word ∷ []) = bytes_eq word (codes "version") || is_version_option word
-asks_version (name ∷ word ∷ []) = is_version_option word && is_command name
-asks_version _ = false
-
--- the words that ask for the help of a command
-abbrev pub help_of_command : Text → Option (List Text)
-help_of_command name = if is_command name then Some (name ∷ codes "--help" ∷ []) else None
-
--- the words that ask for what `help` says before a word: of `help` and of `version` the help of all tells
-abbrev pub help_words : Text → Option (List Text)
-help_words name = if bytes_eq name (codes "help") || bytes_eq name (codes "version") then Some (codes "--help" ∷ []) else help_of_command name
-
-abbrev pub is_help_option : Text → Bool
-is_help_option word = bytes_eq word (codes "--help") || bytes_eq word (codes "-h")
-
--- what is too much of the words behind `help` and a name: the first one, but not where it asks for help itself and stands alone
-abbrev pub too_much : List Text → Option Text
-too_much [] = None
-too_much (word ∷ []) = if is_help_option word then None else Some word
-too_much (word ∷ rest) = Some word
-
--- the same of all words
-abbrev pub extra_of_help : List Text → Option Text
-extra_of_help (word ∷ name ∷ rest) = if bytes_eq word (codes "help") then too_much rest else None
-extra_of_help _ = None
-
--- what is said of it
-abbrev pub help_mistake : Text → Text
-help_mistake word =
-    codes "error: unexpected argument '" ++ word
-    ++ codes "' found: behind help stands the name of one command\n\nUsage: obl0 help COMMAND\n\nFor more information, try '--help'.\n"
-
--- What clap reads: `help` alone is its option, and before the name of a command it is that option behind the name. Before another word
--- it is passed over: that word is no command.
-abbrev pub clap_words : List Text → List Text
-clap_words (word ∷ []) = if bytes_eq word (codes "help") then codes "--help" ∷ [] else word ∷ []
-clap_words (word ∷ name ∷ rest) = if bytes_eq word (codes "help") then unwrap_or (help_words name) (name ∷ []) else word ∷ name ∷ rest
-clap_words words = words
 
 abbrev pub request : List Text → Request
 request words =

@@ -18,7 +18,8 @@ use Rattle.ob_command.specs.declared.given.GivenWords.{GivenWords}
 use Rattle.ob_command.specs.declared.command.Stop.{Stop}
 use Rattle.ob_command.specs.declared.command.Stop.TheVariants as stops
 use Rattle.ob_command_line.specs.ClapCommand.{obl0_app}
-use Rattle.ob_command.specs.CommandLine.{Text, clap_words, extra_of_help, form_mistake_of, has_negative, help_mistake, loose_number, number_sentence, number_tip, AlwaysRequest, CallsRequest, ChanceRequest, Given, OrderRequest, OutcomesRequest, Request, RunRequest, SeenRequest, SeqRequest, Check, Listing, Seq, Live, Run, RunTree, RunSteps, RunFinished, RunByChance, Serve, Draw, DrawRecord, DrawHistory, Outcomes, State, Verify, Order, Explain, ExplainFault, ExplainCalls, ExplainTraps, ExplainRun, ExplainAlways, ExplainRecord, ExplainRecordTraps, ExplainHistory, Bound, Help, Version, Unclear}
+use Rattle.ob_command.specs.CommandLine.{Text, form_mistake_of, has_negative, loose_number, number_sentence, number_tip, AlwaysRequest, CallsRequest, ChanceRequest, Given, OrderRequest, OutcomesRequest, Request, RunRequest, SeenRequest, SeqRequest, Check, Listing, Seq, Live, Run, RunTree, RunSteps, RunFinished, RunByChance, Serve, Draw, DrawRecord, DrawHistory, Outcomes, State, Verify, Order, Explain, ExplainFault, ExplainCalls, ExplainTraps, ExplainRun, ExplainAlways, ExplainRecord, ExplainRecordTraps, ExplainHistory, Bound, Help, Version, Unclear}
+use Rattle.ob_command_line.specs.HelpWords.{clap_words, extra_of_help, help_mistake}
 
 -- what is given by words
 abbrev pub given_by : GivenWords → Given

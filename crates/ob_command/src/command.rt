@@ -9,10 +9,10 @@ ghost use Rattle.ob_command.specs.declared.command.Stop.TheVariants.{NoMemory};
 use crate::asked::asked;
 use crate::forms::form_mistake;
 use crate::given::given_of;
-use crate::help::{asks_version, clap_words, extra_of_help, help_mistake};
 use crate::mistakes::{has_negative, loose_number, stop_of};
 use clap::ArgMatches;
 use ob_command_line::command_line::command_line;
+use ob_command_line::help::{asks_version, clap_words, extra_of_help, help_mistake};
 use std::alloc::{AllocError, Global};
 
 /// What the words ask for. The names are of files.

@@ -8,7 +8,6 @@ pub mod fault_names;
 mod faults;
 mod forms;
 mod given;
-mod help;
 mod mistakes;
 
 pub use command::{

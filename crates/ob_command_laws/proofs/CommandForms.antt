@@ -7,7 +7,8 @@ use Rattle.clap.specs.Kinds.{Kinds, check_kinds, or_else}
 use Rattle.clap.specs.Faults.{check_fault, defaults_fault, walk_fault}
 use Rattle.clap.specs.Simple.{Shape}
 use Rattle.clap.proofs.OnLiterals.{clap_on_literals}
-use Rattle.ob_command.specs.CommandLine.{Check, Given, Listing, Unclear, Verify, Version, asked, asks_version, clap_request, command_of, form_mistake, form_mistake_by, form_mistake_of, given_of, is_option, order_mistake_of, outcomes_mistake_of, request}
+use Rattle.ob_command.specs.CommandLine.{Check, Given, Listing, Unclear, Verify, Version, asked, clap_request, command_of, form_mistake, form_mistake_by, form_mistake_of, given_of, is_option, order_mistake_of, outcomes_mistake_of, request}
+use Rattle.ob_command_line.specs.HelpWords.{asks_version}
 use Rattle.ob_command_laws.specs.PlainForms.{Argument, BySeed, Finishing, Always, WithState, WithTurns, AsWhole, OfLength, AsksWithHistory, AsksWithModule, AsksWithSchedule, AsksWithScript, ArePlain, AsRecord, ByTree, Chosen, Count, Most, OfTraps, Range, Seen, Start, Told, Turns, WithSteps, bound_options, draw_options, explain_options, given_in, given_with_history, id_of, is_chosen, is_plain, live_options, order_options, outcomes_options, run_options, seq_options, serve_options, state_options, words_of}
 use Rattle.ob_command_laws.proofs.AskedWords.{clap_asked, clap_met, start}
 use Rattle.ob_command.proofs.BuiltLine.{bound_leaf, built_always, built_budget, built_by, built_calls, built_from, built_help, built_history, built_length, built_most, built_name, built_number, built_record, built_seed, draw_leaf, explain_leaf, leaf, live_leaf, module_leaf, name_row, needed, order_leaf, outcomes_leaf, run_leaf, seq_leaf, serve_leaf, state_leaf, verify_leaf}

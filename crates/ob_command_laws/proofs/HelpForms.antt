@@ -3,7 +3,8 @@ use Rattle.std.proofs.Common.{◌≡◌, refl, [], ◌∷◌, codes}
 use Rattle.std.specs.List.{All}
 use Rattle.std.proofs.lemmas.List.Elements.{All-from_recursion}
 use Rattle.clap.proofs.OnLiterals.{clap_on_literals}
-use Rattle.ob_command.specs.CommandLine.{Help, Unclear, clap_request, command_names}
+use Rattle.ob_command.specs.CommandLine.{Help, Unclear, clap_request}
+use Rattle.ob_command_line.specs.HelpWords.{command_names}
 use Rattle.ob_command_laws.specs.PlainForms.{IsHelpAsked, IsVersionAsked}
 
 pub help_asked : clap_request (codes "--help" ∷ []) ≡ Help

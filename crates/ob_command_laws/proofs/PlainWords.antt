@@ -4,7 +4,8 @@ use Rattle.std.specs.Str.{bytes_eq}
 use Rattle.std.proofs.lemmas.Slice.Eq.{bytes_eq-Decides}
 use Rattle.clap.specs.Lexer.{long_of, long_of_rest, short_of, short_of_rest, strip_byte}
 use Rattle.clap.specs.Walk.{Text}
-use Rattle.ob_command.specs.CommandLine.{Version, asks_version, clap_request, is_option}
+use Rattle.ob_command.specs.CommandLine.{Version, clap_request, is_option}
+use Rattle.ob_command_line.specs.HelpWords.{asks_version}
 
 -- it is no such option
 not_this : (this word : Text) → is_option this ≡ true → is_option word ≡ false → bytes_eq word this ≡ false

@@ -1,1 +1,2 @@
 pub mod ClapCommand
+pub mod HelpWords

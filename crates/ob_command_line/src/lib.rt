@@ -3,4 +3,5 @@
 
 pub mod arguments;
 pub mod command_line;
+pub mod help;
 pub mod lines;

@@ -1,8 +1,8 @@
 //! What asks for help or for the version, and what does so with a word too much.
 
 ghost use Rattle.std.specs.Prelude.{◌≡◌, IfOk, Some, is_some, map, option_map, string_bytes};
-ghost use Rattle.ob_command.specs.CommandLine.{asks_version, clap_words, extra_of_help, help_mistake, help_of_command, help_words, is_help_option};
-ghost use Rattle.ob_command.specs.CommandLine.{is_version_option, too_much};
+ghost use Rattle.ob_command_line.specs.HelpWords.{asks_version, clap_words, extra_of_help, help_mistake, help_of_command, help_words};
+ghost use Rattle.ob_command_line.specs.HelpWords.{is_help_option, is_version_option, too_much};
 
 use std::alloc::{AllocError, Global};
 
@@ -19,7 +19,7 @@ For more information, try '--help'.
 const ASKING_HELP: &[&str] = &["--help"];
 
 /// Whether words ask for the version.
-pub(crate) fn asks_version(words: &[&str]) -> bool
+pub fn asks_version(words: &[&str]) -> bool
     ensures { result ≡ asks_version (map (λ word. word.now) words.now) }
 {
     match words {
@@ -36,7 +36,7 @@ fn is_version_option(word: &str) -> bool
 }
 
 /// The first word that is too much behind `help` and a name.
-pub(crate) fn extra_of_help<'a>(words: &[&'a str]) -> Option<&'a str>
+pub fn extra_of_help<'a>(words: &[&'a str]) -> Option<&'a str>
     ensures { option_map (λ word. word.now) result ≡ extra_of_help (map (λ word. word.now) words.now) }
 {
     match words {
@@ -63,7 +63,7 @@ fn is_help_option(word: &str) -> bool
 }
 
 /// What is said of a word that is too much behind `help` and a name.
-pub(crate) fn help_mistake(alloc: Global, word: &str) -> Result<String, AllocError>
+pub fn help_mistake(alloc: Global, word: &str) -> Result<String, AllocError>
     ensures { IfOk result (λ text. string_bytes text ≡ help_mistake word.now) }
 {
     let mut text = String::from_str(alloc, "error: unexpected argument '")?;
@@ -73,7 +73,7 @@ pub(crate) fn help_mistake(alloc: Global, word: &str) -> Result<String, AllocErr
 }
 
 /// The words that `clap` reads: `help` as its option, and behind the name of a command.
-pub(crate) fn clap_words<'a>(words: &'a [&'a str]) -> &'a [&'a str]
+pub fn clap_words<'a>(words: &'a [&'a str]) -> &'a [&'a str]
     ensures { map (λ word. word.now) result.now ≡ clap_words (map (λ word. word.now) words.entry.now) }
 {
     match words {
