@@ -11,7 +11,8 @@ use ob_object_search::searching::named;
 use ob_object_search::{ModuleObject, Search, SearchFault};
 use std::alloc::{AllocError, Global};
 use wf_history::{CallId, Event, History};
-use wf_order::{Verdict, copied, find_order};
+use wf_order::{Verdict, find_order};
+use wf_parts::copied;
 
 /// The first events of a history, so many, by a legal order: all, or those up to the end with which there ceases to be one. Then the
 /// order is one of the events before it, and the call that ends there is told.

@@ -8,7 +8,7 @@ use crate::searching::named;
 use ob_interface::NoMemory;
 use std::alloc::Global;
 use wf_history::{History, SeenEvent};
-use wf_order::push_seen;
+use wf_parts::push_seen;
 
 /// The event, by the name of its process.
 fn named_event<'a>(names: &[usize], event: SeenEvent<'a>) -> SeenEvent<'a>

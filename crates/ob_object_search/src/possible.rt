@@ -16,7 +16,8 @@ use ob_interface::NoMemory;
 use ob_interface::call::Reply;
 use std::alloc::Global;
 use wf_history::{CallId, Event, KeptReply};
-use wf_order::{Verdict, copied, find_order};
+use wf_order::{Verdict, find_order};
+use wf_parts::copied;
 
 /// For a reply at most so many configurations are looked at, and more where there are many events.
 const FEW: usize = 10_000;

@@ -1,8 +1,9 @@
 -- Which call is tried next, and that each try leaves fewer.
-use Rattle.std.proofs.Common.{◌≡◌, refl, sym, ap, ◌∙◌, subst, ℕ, ◌+◌, ◌-◌, ◌<◌, ◌≤◌, zero, suc, List, [], ◌∷◌, length, get_or, Option, Some, None, arith, inl, inr}
+use Rattle.std.proofs.Common.{◌≡◌, refl, sym, ap, ◌∙◌, subst, ℕ, ◌+◌, ◌-◌, ◌<◌, ◌≤◌, zero, suc, List, [], ◌∷◌, ◌++◌, length, get_or, Option, Some, None, arith, inl, inr}
 use Rattle.std.proofs.lemmas.Bool.{cases_lt}
 use Rattle.std.proofs.lemmas.Option.{same_Some}
-use Rattle.std.specs.List.{slice_get}
+use Rattle.std.proofs.lemmas.List.Elements.{Contains-append_left, Contains-push, Contains-push_cases}
+use Rattle.std.specs.List.{Contains, slice_get}
 use Rattle.ob_interface.specs.Call.{ObjectCall, Reply}
 use Rattle.wf_history.specs.declared.event.CallId.{CallId}
 use Rattle.wf_history.specs.History.{Event, Begin}
@@ -14,7 +15,7 @@ use Rattle.wf_order.specs.declared.rows.Rows.{Rows}
 use Rattle.wf_order.specs.declared.turn.Turn.{Turn}
 use Rattle.wf_order.specs.Rows.{AreRows, begun_rows, call_at, row_of}
 use Rattle.wf_order.specs.Steps.{Configuration, IsLimit, IsStep}
-use Rattle.wf_order.specs.Turns.{BeginsFrom, IsFirstOf, IsFirstTurn, IsNext, IsSooner, one_from, turns}
+use Rattle.wf_order.specs.Turns.{AreTurns, BeginsFrom, IsFirstIn, IsFirstTurn, IsNext, one_from, turns}
 use Rattle.wf_order.proofs.Limits.{limit_later}
 
 one_at_most : (from : ℕ) (next : Option Begun) → one_from from next ≤ 1
@@ -64,53 +65,92 @@ turns_less from to (row ∷ rows) (count ∷ counts) (suc p) b e low high =
     omega (arith, a, r)
 
 module _ (rows : Rows) (counts : List ℕ) (from limit : ℕ) where
-  pub first_start : (turn : Turn) → turn.place ≡ limit → IsFirstOf rows counts 0 from limit turn
-  first_start turn is = record {
-    within = omega (arith, is);
-    least = λ q b lt next low. absurd (omega (arith, lt));
-    own = λ lt. absurd (omega (arith, lt, is));
+  pub turns_start : AreTurns rows counts 0 from limit []
+  turns_start = record {
+    all = λ q b lt next low early. absurd (omega (arith, lt));
+    own = λ t there. let p = place_of [] t there in let e = p.1 in absurd (cc);
   }
 
-  -- one process more, which has no next call
-  pub first_kept : (p : ℕ) (turn : Turn) → IsFirstOf rows counts p from limit turn → slice_get (row_of (begun_rows rows) p) (get_or counts p 0) ≡ None → IsFirstOf rows counts (p + 1) from limit turn
-  first_kept p turn h none = record {
-    within = h.within;
-    least = λ q b lt next low. elim (cases_lt q p) [
-      | inl less ↦ h.least q b less next low
+  -- one process more, which has no such call
+  pub turns_kept : (p : ℕ) (turns : List Turn) → AreTurns rows counts p from limit turns → ((b : Begun) → IsNext rows counts p b → from ≤ b.place → b.place < limit → ⊥) →
+      AreTurns rows counts (p + 1) from limit turns
+  turns_kept p turns h none = record {
+    all = λ q b lt next low early. elim (cases_lt q p) [
+      | inl less ↦ h.all q b less next low early
       | inr ge ↦
-          let same : q ≡ p = omega (arith, lt, ge) in
-          let there : ◌≡◌ {A = Option Begun} None (Some b) = sym none ∙ ap (λ (x : ℕ). slice_get (row_of (begun_rows rows) x) (get_or counts x 0)) (sym same) ∙ next in absurd (cc)
+          let same : q ≡ p = omega (arith, lt, ge) in absurd (none b (subst (λ (x : ℕ). IsNext rows counts x b) same next) low early)
     ];
-    own = λ lt. let r = h.own lt in (r.0, omega (arith, r.1), r.2, r.3, r.4);
+    own = λ t there. let o = h.own t there in (o.0, omega (arith, o.1), o.2, o.3, o.4, o.5);
   }
 
   -- one process more
-  pub first_more : (p : ℕ) (turn new : Turn) (begun : Begun) → IsFirstOf rows counts p from limit turn → IsNext rows counts p begun → IsSooner turn from p begun new → IsFirstOf rows counts (p + 1) from limit new
-  first_more p turn new begun h next (inl old) = subst (IsFirstOf rows counts (p + 1) from limit) (sym old.0) (record {
+  pub turns_more : (p : ℕ) (turns : List Turn) (b : Begun) → AreTurns rows counts p from limit turns → IsNext rows counts p b → from ≤ b.place → b.place < limit →
+      AreTurns rows counts (p + 1) from limit (turns ++ record { process = p; place = b.place } ∷ [])
+  turns_more p turns b h next low early = record {
+    all = λ q other lt is behind before. elim (cases_lt q p) [
+      | inl less ↦ Contains-append_left turns _ _ (h.all q other less is behind before)
+      | inr ge ↦
+          let same : q ≡ p = omega (arith, lt, ge) in
+          let here : b ≡ other = same_Some b other (sym next ∙ ap (λ (x : ℕ). slice_get (row_of (begun_rows rows) x) (get_or counts x 0)) (sym same) ∙ is) in
+          let turn : ◌≡◌ {A = Turn} (record { process = p; place = b.place }) (record { process = q; place = other.place }) = cc in
+          subst (λ (t : Turn). Contains (turns ++ record { process = p; place = b.place } ∷ []) t) turn (Contains-push turns _)
+    ];
+    own = λ t there. elim (Contains-push_cases turns (record { process = p; place = b.place }) t there) [
+      | inl before ↦ let o = h.own t before in (o.0, omega (arith, o.1), o.2, o.3, o.4, o.5)
+      | inr same ↦ subst (λ (x : Turn). (begun : Begun) × (x.process < p + 1) × IsNext rows counts x.process begun × (begun.place ≡ x.place) × (from ≤ x.place) × (x.place < limit)) same
+          (b, omega arith, next, refl, low, early)
+    ];
+  }
+
+module _ (from limit : ℕ) where
+  pub first_none : (turn : Turn) → turn.place ≡ limit → IsFirstIn [] from limit turn
+  first_none turn is = record {
+    within = omega (arith, is);
+    least = λ t there low. let p = place_of [] t there in let e = p.1 in absurd (cc);
+    own = λ lt. absurd (omega (arith, lt, is));
+  }
+
+  -- one turn more, that comes sooner
+  pub first_new : (turns : List Turn) (old new : Turn) → IsFirstIn turns from limit old → from ≤ new.place → new.place < old.place → IsFirstIn (turns ++ new ∷ []) from limit new
+  first_new turns old new h low less = record {
+    within = let w = h.within in omega (arith, w, less);
+    least = λ t there behind. elim (Contains-push_cases turns new t there) [
+      | inl before ↦ let le = h.least t before behind in omega (arith, le, less)
+      | inr same ↦ let is : new.place ≡ t.place = ap (λ (x : Turn). x.place) same in omega (arith, is)
+    ];
+    own = λ lt. (Contains-push turns new, low);
+  }
+
+  -- one that does not
+  pub first_old : (turns : List Turn) (old other : Turn) → IsFirstIn turns from limit old → (from ≤ other.place → old.place ≤ other.place) → IsFirstIn (turns ++ other ∷ []) from limit old
+  first_old turns old other h later = record {
     within = h.within;
-    least = λ q b lt at low. elim (cases_lt q p) [
-      | inl less ↦ h.least q b less at low
-      | inr ge ↦
-          let same : q ≡ p = omega (arith, lt, ge) in
-          let here : begun ≡ b = same_Some begun b (sym next ∙ ap (λ (x : ℕ). slice_get (row_of (begun_rows rows) x) (get_or counts x 0)) (sym same) ∙ at) in
-          let place : begun.place ≡ b.place = ap (λ (x : Begun). x.place) here in
-          let le = old.1 (omega (arith, place, low)) in
-          omega (arith, place, le)
+    least = λ t there behind. elim (Contains-push_cases turns other t there) [
+      | inl before ↦ h.least t before behind
+      | inr same ↦
+          let is : other.place ≡ t.place = ap (λ (x : Turn). x.place) same in
+          let le = later (omega (arith, is, behind)) in omega (arith, is, le)
     ];
-    own = λ lt. let r = h.own lt in (r.0, omega (arith, r.1), r.2, r.3, r.4);
-  })
-  first_more p turn new begun h next (inr taken) = subst (IsFirstOf rows counts (p + 1) from limit) (sym taken.0) (record {
-    within = let w = h.within in let lt = taken.2 in omega (arith, w, lt);
-    least = λ q b lt at low. elim (cases_lt q p) [
-      | inl less ↦ let le = h.least q b less at low in let sooner = taken.2 in omega (arith, le, sooner)
-      | inr ge ↦
-          let same : q ≡ p = omega (arith, lt, ge) in
-          let here : begun ≡ b = same_Some begun b (sym next ∙ ap (λ (x : ℕ). slice_get (row_of (begun_rows rows) x) (get_or counts x 0)) (sym same) ∙ at) in
-          let place : begun.place ≡ b.place = ap (λ (x : Begun). x.place) here in
-          omega (arith, place)
-    ];
-    own = λ lt. (begun, omega arith, next, refl, taken.1);
-  })
+    own = λ lt. let o = h.own lt in (Contains-append_left turns _ _ o.0, o.1);
+  }
+
+-- of all turns behind a place, the first one behind a later place
+pub first_of : (rows : Rows) (counts : List ℕ) (low from limit : ℕ) (turns : List Turn) (turn : Turn) → AreTurns rows counts (length counts) low limit turns → low ≤ from → IsFirstIn turns from limit turn →
+    IsFirstTurn rows counts from limit turn
+first_of rows counts low from limit turns turn are le first = record {
+  within = first.within;
+  least = λ q b within next behind. elim (cases_lt b.place limit) [
+    | inl early ↦ first.least (record { process = q; place = b.place }) (are.all q b within next (omega (arith, le, behind)) early) behind
+    | inr late ↦ let w = first.within in omega (arith, w, late)
+  ];
+  own = λ lt. let there = first.own lt in let o = are.own turn there.0 in (o.0, o.1, o.2, o.3, there.1);
+}
+
+-- the same where the counts and the turns are known by another name
+pub first_here : (rows : Rows) (counts named : List ℕ) → counts ≡ named → (low from limit : ℕ) (turns given : List Turn) → given ≡ turns → (turn : Turn) →
+    AreTurns rows counts (length counts) low limit turns → low ≤ from → IsFirstIn given from limit turn → IsFirstTurn rows named from limit turn
+first_here rows counts named same low from limit turns given is turn are le first =
+    subst (λ (l : List ℕ). IsFirstTurn rows l from limit turn) same (first_of rows counts low from limit turns turn are le (subst (λ (l : List Turn). IsFirstIn l from limit turn) is first))
 
 same_begin : (a b : CallId) (x y : ObjectCall) → ◌≡◌ {A = Event ObjectCall Reply} (Begin a x) (Begin b y) → a ≡ b
 same_begin a b x y e = cc

@@ -1,5 +1,5 @@
 -- Which calls are tried next.
-use Rattle.std.specs.Prelude.{◌≡◌, ℕ, ◌+◌, ◌-◌, ◌<◌, ◌≤◌, List, [], ◌∷◌, length, get_or, slice_get, Option, Some, None, ◌⊎◌}
+use Rattle.std.specs.Prelude.{◌≡◌, ℕ, ◌+◌, ◌-◌, ◌<◌, ◌≤◌, List, [], ◌∷◌, length, get_or, slice_get, Option, Some, None, Contains}
 use Rattle.wf_history.specs.declared.event.CallId.{CallId}
 use Rattle.wf_history.specs.History.{Event, Begin}
 use Rattle.wf_order.specs.declared.rows.Begun.{Begun}
@@ -18,22 +18,25 @@ pub record BeginsFrom {Call Reply : Type 0} (history : List (Event Call Reply)) 
 abbrev pub IsNext : Rows → List ℕ → ℕ → Begun → Type 0
 IsNext rows counts process begun = slice_get (row_of (begun_rows rows) process) (get_or counts process 0) ≡ Some begun
 
--- Of the next calls of the first processes that begin at a place or behind it, and before the limit, this one begins first;
--- where there is none, its place is the limit.
-pub record IsFirstOf (rows : Rows) (counts : List ℕ) (processes from limit : ℕ) (turn : Turn) : Type 0 where
+-- Of the next calls that begin at a place or behind it, and before the limit, this one begins first; where there is none, its
+-- place is the limit.
+pub record IsFirstTurn (rows : Rows) (counts : List ℕ) (from limit : ℕ) (turn : Turn) : Type 0 where
   pub within : turn.place ≤ limit
-  pub least : (process : ℕ) (begun : Begun) → process < processes → IsNext rows counts process begun → from ≤ begun.place → turn.place ≤ begun.place
-  pub own : turn.place < limit → (begun : Begun) × (turn.process < processes) × IsNext rows counts turn.process begun × (begun.place ≡ turn.place) × (from ≤ turn.place)
+  pub least : (process : ℕ) (begun : Begun) → process < length counts → IsNext rows counts process begun → from ≤ begun.place → turn.place ≤ begun.place
+  pub own : turn.place < limit → (begun : Begun) × (turn.process < length counts) × IsNext rows counts turn.process begun × (begun.place ≡ turn.place) × (from ≤ turn.place)
 
--- the same of all processes
-abbrev pub IsFirstTurn : Rows → List ℕ → ℕ → ℕ → Turn → Type 0
-IsFirstTurn rows counts from limit turn = IsFirstOf rows counts (length counts) from limit turn
+-- the turns are the next calls of the first processes that begin at a place or behind it, and before the limit
+pub record AreTurns (rows : Rows) (counts : List ℕ) (processes from limit : ℕ) (turns : List Turn) : Type 0 where
+  pub all : (process : ℕ) (begun : Begun) → process < processes → IsNext rows counts process begun → from ≤ begun.place → begun.place < limit →
+      Contains turns (record { process = process; place = begun.place })
+  pub own : (turn : Turn) → Contains turns turn →
+      (begun : Begun) × (turn.process < processes) × IsNext rows counts turn.process begun × (begun.place ≡ turn.place) × (from ≤ turn.place) × (turn.place < limit)
 
--- a process's call begins at a place or behind it, and sooner than the turn, and is what there is then; else it is the turn
-abbrev pub IsSooner : Turn → ℕ → ℕ → Begun → Turn → Type 0
-IsSooner turn from process begun new =
-    ((new ≡ turn) × (from ≤ begun.place → turn.place ≤ begun.place))
-    ⊎ ((new ≡ record { process = process; place = begun.place }) × (from ≤ begun.place) × (begun.place < turn.place))
+-- Of the turns at a place or behind it, and before the limit, this one comes first; where there is none, its place is the limit.
+pub record IsFirstIn (turns : List Turn) (from limit : ℕ) (turn : Turn) : Type 0 where
+  pub within : turn.place ≤ limit
+  pub least : (other : Turn) → Contains turns other → from ≤ other.place → turn.place ≤ other.place
+  pub own : turn.place < limit → Contains turns turn × (from ≤ turn.place)
 
 -- one where a call begins at a place or behind it, and else none
 abbrev pub one_from : ℕ → Option Begun → ℕ

@@ -1,6 +1,6 @@
 //! What is tried next from a configuration.
 
-ghost use Rattle.std.specs.Prelude.{◌≡◌, ◌<◌, ℕ, List, length, IfOk, IfSome, IsTrue, MatchOption};
+ghost use Rattle.std.specs.Prelude.{◌≡◌, ◌<◌, ℕ, List, length, IfOk, IfSome, IsTrue, MatchOption, OnOk};
 ghost use Rattle.ob_interface.specs.Call.{ObjectCall, Reply};
 ghost use Rattle.wf_history.specs.History.{Event};
 ghost use Rattle.wf_order.specs.Rules.{AreIdle};
@@ -9,10 +9,11 @@ ghost use Rattle.wf_order.specs.Steps.{Configuration};
 
 use crate::behind::is_behind;
 use crate::object::Object;
+use crate::passing::replies_so;
 use crate::replies::{is_same_call, is_same_reply};
 use crate::seen::Seen;
-use crate::step::{Here, Silent, Task, Told, any_silent_step, quiet_call, step};
-use crate::turn::next_turn;
+use crate::step::{Here, Silent, Task, Told, any_silent_step, ended_call, step};
+use crate::turn::{first_turn, turns_from};
 use crate::without::unless_left_out;
 use ob_interface::NoMemory;
 use wf_history::SeenReply;
@@ -25,27 +26,27 @@ pub(crate) struct Attempt<S> {
     pub state: S,
 }
 
-/// What the next call of a process replies here, where it is silent; else what is known already.
-fn told_at<'a, O: Object>(
+/// Notes what the next call of a process replies here, where it is silent and that is not noted already.
+fn note_told<'a, O: Object>(
     task: &Task<'_, 'a, O>,
     here: &Here<O::State>,
     process: usize,
-    told: Option<Told<'a>>,
-) -> Result<Option<Told<'a>>, NoMemory>
-    requires { IfSome told (IsTold (O.effect task.now.object.now) (O.meaning here.now.found.now.state)) }
-    ensures { IfOk result (λ o. IfSome o (IsTold (O.effect task.now.object.now) (O.meaning here.now.found.now.state))) }
+    told: &mut Option<Told<'a>>,
+) -> Result<(), NoMemory>
+    requires { IfSome told.old (IsTold (O.effect task.now.object.now) (O.meaning here.now.found.now.state)) }
+    ensures { OnOk result (IfSome told.new (IsTold (O.effect task.now.object.now) (O.meaning here.now.found.now.state))) }
 {
-    let Some((begun, _end)) = quiet_call(task, here, process) else {
-        return Ok(told);
+    let Some(taken) = here.found.counts.get(process) else {
+        return Ok(());
     };
-    if let Some(told) = told {
-        if is_same_call(told.call, begun.call) {
-            return Ok(Some(told));
-        }
+    if !task.quiet.may_come(process, *taken as usize, here.limit) {
+        return Ok(());
     }
-    let call = begun.call;
-    let (_next, reply) = task.object.apply(task.alloc, &here.found.state, call)?;
-    Ok(Some(Told { call, reply }))
+    let Some((begun, end)) = ended_call(task, here, process) else {
+        return Ok(());
+    };
+    let _fits = replies_so(task, &here.found.state, begun.call, end.reply, told)?;
+    Ok(())
 }
 
 /// Whether the next call of a process is known to have another reply here than in the history.
@@ -166,15 +167,16 @@ fn next_attempt<'a, O: Object>(
     ensures within { IfOk result (λ o. IfSome o (λ a. a.process < length here.now.found.now.counts.items)) }
 {
     let limit = here.limit;
+    let turns = turns_from(task.alloc, task.rows, &here.found.counts, from, limit)?;
     let mut told = known;
     let mut start = from;
     while start < limit {
-        let turn = next_turn(task.rows, &here.found.counts, start, limit);
+        let turn = first_turn(turns.as_slice(), start, limit);
         if turn.place >= limit {
             return Ok(None);
         }
         let process = turn.process;
-        told = told_at(task, here, process, told)?;
+        note_told(task, here, process, &mut told)?;
         let next = turn.place + 1;
         match tried(task, here, process, &told, hard)? {
             Some(state) => {

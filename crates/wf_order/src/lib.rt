@@ -2,15 +2,14 @@
 //! they lead to. None is gone over twice. A call that only reads is passed over, one that leaves the state as it is comes first and alone, of
 //! equal calls only one is tried, and an open call not where all that may come behind it comes without it too.
 //!
-//! An order that is found is then cut down to the open calls that it needs. And copies are made of the beginnings of a history.
+//! An order that is found is then cut down to the open calls that it needs.
 //!
-//! One may rely on the clauses of `find_order` (`specs/Verdict.antt`), `needed_order` (`specs/Needed.antt`), `push_seen`, `copied`, `open_calls`
-//! and `process_count`. In which order steps are tried, and which open calls are left out where not all can be, may change without asking.
+//! One may rely on the clauses of `find_order` (`specs/Verdict.antt`), `needed_order` (`specs/Needed.antt`), `open_calls` and
+//! `process_count`. In which order steps are tried, and which open calls are left out where not all can be, may change without asking.
 #![tactic(auto)]
 
 mod attempt;
 mod behind;
-pub mod copying;
 pub mod find;
 mod front;
 mod listed;
@@ -30,7 +29,6 @@ mod step;
 mod turn;
 mod without;
 
-pub use copying::{copied, push_seen};
 pub use find::{Verdict, find_order};
 pub use needed::needed_order;
 pub use object::Object;

@@ -83,5 +83,9 @@ pub(crate) fn listed_all<'a>(
 pub(crate) fn names_of(alloc: Global, all: &[Listed]) -> Result<Vec<CallId>, NoMemory>
     ensures { IfOk result (λ ids. ids.items ≡ ids_of all.now) }
 {
-    Ok(all.iter().map(|listed| listed.id).collect(alloc)?)
+    let mut ids = Vec::with_capacity(alloc, all.len())?;
+    for listed in all {
+        ids.push(listed.id)?;
+    }
+    Ok(ids)
 }

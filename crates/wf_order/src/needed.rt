@@ -13,18 +13,6 @@ use ob_interface::NoMemory;
 use std::alloc::Global;
 use wf_history::{CallId, History};
 
-/// Whether some call is open.
-fn any_open(all: &[Listed]) -> bool
-    ensures { ¬ IsTrue result → (k : ℕ) (c : Rust.Listed) → slice_get all.now k ≡ Some c → ¬ IsOpenCall c }
-{
-    for listed in all {
-        if listed.reply.is_none() {
-            return true;
-        }
-    }
-    false
-}
-
 /// How many calls stand up to the last open one, it included.
 fn open_until(all: &[Listed]) -> usize
     ensures within { result ≤ length all.now }
@@ -94,7 +82,7 @@ fn thinned<'a, O: Object>(
     ensures left_out { IfOk result (λ kept. LeavesOut IsOpenCall all.entry.items kept.items) }
     ensures needed { IfOk result (λ kept. EachIsNeeded (O.effect object.now) (O.opening object.now) kept.items) }
 {
-    if !any_open(all.as_slice()) {
+    if open_until(all.as_slice()) == 0 {
         return Ok(all);
     }
     let mut before = all;

@@ -13,12 +13,12 @@ use crate::replies::{is_same_call, is_same_reply};
 use crate::rows::limit_of;
 use crate::search::Frame;
 use crate::seen::Found;
-use crate::step::{Here, Task, Told, quiet_call, take_next};
+use crate::step::{Here, Task, Told, ended_call, take_next};
 use ob_interface::NoMemory;
 use wf_history::{CallId, SeenCall, SeenReply};
 
 /// Whether a call has this reply in a state. What it replies is noted, so that no equal one is made there again.
-fn replies_so<'a, O: Object>(
+pub(crate) fn replies_so<'a, O: Object>(
     task: &Task<'_, 'a, O>,
     state: &O::State,
     call: SeenCall<'a>,
@@ -57,7 +57,7 @@ fn reads_here<'a, O: Object>(
     ensures reads { (history : List (Event ObjectCall Reply)) → IsAt history task.now.rows.now here.now
         → IfOk result (λ reads. IsTrue reads → IsReadingNext (O.effect task.now.object.now) history (found_in O.meaning here.now.found.now) process) }
 {
-    let Some((begun, end)) = quiet_call(task, here, process) else {
+    let Some((begun, end)) = ended_call(task, here, process) else {
         return Ok(false);
     };
     if !task.object.is_reader(begun.call) {
@@ -80,18 +80,19 @@ fn reader_at<'a, O: Object>(
     ensures reads { (history : List (Event ObjectCall Reply)) → IsAt history task.now.rows.now here.now
         → IfOk result (λ o. IfSome o (IsReadingNext (O.effect task.now.object.now) history (found_in O.meaning here.now.found.now))) }
 {
-    for process in from..here.found.counts.len() {
+    let counts = here.found.counts.as_slice();
+    for process in from..counts.len() {
+        if !task
+            .quiet
+            .may_come(process, counts[process] as usize, here.limit)
+        {
+            continue;
+        }
         if reads_here(task, here, process, told)? {
             return Ok(Some(process));
         }
     }
     Ok(None)
-}
-
-/// From which process on is asked again behind a call of this one that was taken: where no more calls may be taken than before, those of the
-/// processes before it were asked.
-fn asked_from(process: usize, limit: usize, next: usize) -> usize {
-    if next > limit { 0 } else { process }
 }
 
 /// A configuration, moved on by all calls that only read and may be taken with their replies, and its limit. For each of them there is
@@ -134,7 +135,8 @@ pub(crate) fn passed<O: Object>(
             limit,
         })?;
         let next = limit_of(task.rows, &there.counts);
-        from = asked_from(process, limit, next);
+        // Where no more calls may be taken than before, those of the processes before this one were asked.
+        from = (next <= limit).then_some(process).unwrap_or(0);
         limit = next;
     }
     Ok((there, limit))

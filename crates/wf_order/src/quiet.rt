@@ -5,46 +5,39 @@ use crate::rows::{Begun, Ended, Rows};
 use ob_interface::NoMemory;
 use std::alloc::{AllocError, Global};
 
-/// Of each ended call, by its process and its place in the row, whether it is told to be silent; whether there are such that do more than
-/// read; and the first place at which a call ends.
+/// Of each ended call, by its process and its place in the row, the place at which it begins, where it is told to be silent, and else a
+/// place behind all events. And up to which place a silent call may be left where the first end that is not taken is there: up to any, where
+/// one does more than read; else up to the first end, since from there on what only reads is passed over.
 #[derive(Drop)]
 pub(crate) struct Quiet {
-    rows: Vec<Vec<bool>>,
-    others: bool,
-    first: usize,
+    rows: Vec<Vec<usize>>,
+    pub until: usize,
 }
 
 impl Quiet {
     /// Of the calls in these rows.
     pub(crate) fn of<O: Object>(alloc: Global, object: &O, rows: &Rows) -> Result<Quiet, NoMemory> {
         let mut quiet = Vec::with_capacity(alloc, rows.begun.len())?;
+        let mut until = rows.events;
         let mut others = false;
-        let mut first = rows.events;
         for (begun, ended) in rows.begun.iter().zip(rows.ended.iter()) {
             let (row, has_others) = quiet_row(alloc, object, begun.as_slice(), ended.as_slice())?;
             quiet.push(row)?;
             others |= has_others;
             if let Some(end) = ended.first() {
-                first = first.min(end.place);
+                until = until.min(end.place);
             }
         }
-        Ok(Quiet {
-            rows: quiet,
-            others,
-            first,
-        })
+        if others {
+            until = usize::MAX;
+        }
+        Ok(Quiet { rows: quiet, until })
     }
 
-    /// Whether a silent call may be left where the first end that is not taken is at this place: one that does more than read, or one
-    /// that may come at the start, since from there on what only reads is passed over.
-    pub(crate) fn may_be_left(&self, limit: usize) -> bool {
-        self.others || limit <= self.first
-    }
-
-    /// Whether a call is among those.
-    pub(crate) fn has(&self, process: usize, place: usize) -> bool {
+    /// Whether a call is told to be silent, and begins before the limit.
+    pub(crate) fn may_come(&self, process: usize, place: usize, limit: usize) -> bool {
         match self.rows.get(process) {
-            Some(row) => row.get(place).copied().unwrap_or(false),
+            Some(row) => row.get(place).copied().unwrap_or(usize::MAX) < limit,
             None => false,
         }
     }
@@ -56,12 +49,12 @@ fn quiet_row<O: Object>(
     object: &O,
     begun: &[Begun],
     ended: &[Ended],
-) -> Result<(Vec<bool>, bool), AllocError> {
+) -> Result<(Vec<usize>, bool), AllocError> {
     let mut row = Vec::with_capacity(alloc, ended.len())?;
     let mut others = false;
     for (call, end) in begun.iter().zip(ended.iter()) {
         let silent = object.is_silent(call.call, end.reply);
-        row.push(silent)?;
+        row.push(if silent { call.place } else { usize::MAX })?;
         if silent && !object.is_reader(call.call) {
             others = true;
         }

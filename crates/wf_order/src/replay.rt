@@ -7,32 +7,9 @@ ghost use Rattle.wf_order.specs.Listed.{Ends, Replays};
 
 use crate::Object;
 use crate::listed::Listed;
-use crate::replies::is_same_reply;
+use crate::step::outcome;
 use ob_interface::NoMemory;
 use std::alloc::Global;
-
-/// What a call makes of a state, where its reply is that of the history, if it has one.
-fn outcome<O: Object>(
-    alloc: Global,
-    object: &O,
-    state: &O::State,
-    listed: &Listed,
-) -> Result<Option<O::State>, NoMemory>
-    ensures { IfOk result (λ to. MatchOption to ((after : O.Meaning) → ¬ Ends (O.effect object.now) listed.now (O.meaning state.now) after)
-        (λ next. Ends (O.effect object.now) listed.now (O.meaning state.now) (O.meaning next))) }
-{
-    let (next, reply) = object.apply(alloc, state, listed.call)?;
-    match listed.reply {
-        None => Ok(Some(next)),
-        Some(other) => {
-            if is_same_reply(&reply, other) {
-                Ok(Some(next))
-            } else {
-                Ok(None)
-            }
-        }
-    }
-}
 
 /// The state that a call leads to.
 pub(crate) fn after<O: Object>(
@@ -98,7 +75,7 @@ fn both_after<O: Object>(
         (λ p. Ends (O.effect object.now) listed.now (O.meaning without.now) (O.meaning p.without))) }
     ensures with { IfOk result (λ to. IfSome to (λ p. (reply : AnyReply) × O.effect object.now (seen_call listed.now.call) (O.meaning with.now) (O.meaning p.with) reply)) }
 {
-    let Some(without) = outcome(alloc, object, without, listed)? else {
+    let Some(without) = outcome(alloc, object, without, listed.call, listed.reply)? else {
         return Ok(None);
     };
     let with = after(alloc, object, with, listed)?;

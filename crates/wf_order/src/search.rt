@@ -47,7 +47,11 @@ pub(crate) enum Answer {
 fn path_of(alloc: Global, stack: &[Frame]) -> Result<Vec<CallId>, NoMemory>
     ensures { IfOk result (λ path. path.items ≡ ids_of stack.now) }
 {
-    Ok(stack.iter().map(|frame| frame.id).collect(alloc)?)
+    let mut path = Vec::with_capacity(alloc, stack.len())?;
+    for frame in stack {
+        path.push(frame.id)?;
+    }
+    Ok(path)
 }
 
 /// The last step leads to a configuration with this limit: the calls of the steps, where all that have ended are taken. Else the
@@ -86,15 +90,6 @@ fn arrive<O: Object>(
     Ok(None)
 }
 
-/// What was found by a search, where it is hard: where it has come back to a configuration, or has found more than two for each call on
-/// its way.
-fn if_hard<S>(seen: &Seen<S>, way: usize, next: usize) -> Option<&Seen<S>> {
-    if next > 0 || seen.len() / 2 > way {
-        return Some(seen);
-    }
-    None
-}
-
 /// Tries a silent call or else the next call of the frame that was on top of the stack: a legal order, if one is found.
 pub(crate) fn advance<O: Object>(
     task: &Task<O>,
@@ -124,7 +119,9 @@ pub(crate) fn advance<O: Object>(
         found: &seen[place],
         limit,
     };
-    let hard = if_hard(seen, stack.len(), frame.next);
+    // A search is hard where it has come back to a configuration, or has found more than two for each call on its way.
+    let is_hard = frame.next > 0 || seen.len() / 2 > stack.len();
+    let hard = is_hard.then_some(&*seen);
     let Some(attempt) = chosen(task, &here, frame.next, hard)? else {
         return Ok(None);
     };

@@ -75,21 +75,6 @@ fn is_sooner(rows: &Rows, limit: usize, first: Spot, begun: Begun, end: Ended) -
     is_same_call(sooner_begun.call, begun.call)
 }
 
-/// Whether the next call of a process, which has begun and ended so, need not be tried.
-fn has_sooner_than(rows: &Rows, limit: usize, counts: &[u32], begun: Begun, end: Ended) -> bool
-    ensures { (history : List (Event ObjectCall Reply)) (p k : ℕ) → AreRows history (length counts.now) rows.now → IsLimit history counts.now limit
-        → AreAt rows.now p k begun.entry end.entry → IsTrue result → HasSooner history counts.now (call_at p k) }
-{
-    for (process, count) in counts.iter().enumerate() {
-        let place = *count as usize;
-        let first = Spot { process, place };
-        if is_sooner(rows, limit, first, begun, end) {
-            return true;
-        }
-    }
-    false
-}
-
 /// Whether the next call of a process need not be tried.
 pub(crate) fn has_sooner(rows: &Rows, limit: usize, counts: &[u32], process: usize) -> bool
     ensures { (history : List (Event ObjectCall Reply)) → AreRows history (length counts.now) rows.now → IsLimit history counts.now limit
@@ -109,5 +94,12 @@ pub(crate) fn has_sooner(rows: &Rows, limit: usize, counts: &[u32], process: usi
     if end.place <= limit {
         return false;
     }
-    has_sooner_than(rows, limit, counts, begun, end)
+    for (process, count) in counts.iter().enumerate() {
+        let place = *count as usize;
+        let first = Spot { process, place };
+        if is_sooner(rows, limit, first, begun, end) {
+            return true;
+        }
+    }
+    false
 }

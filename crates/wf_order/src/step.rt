@@ -61,6 +61,7 @@ pub(crate) enum Silent<'a, S> {
 }
 
 /// What a call makes of a state, where its reply is the one that is known, if one is.
+#[inline(always)]
 pub(crate) fn outcome<O: Object>(
     alloc: Global,
     object: &O,
@@ -175,8 +176,8 @@ fn made_by<'a, O: Object>(
     Ok(Made { call, state, reply })
 }
 
-/// The next call of a process, and its end, where it may be taken and is noted as silent.
-pub(crate) fn quiet_call<'a, O: Object>(
+/// The next call of a process, and its end, where it has ended and may be taken.
+pub(crate) fn ended_call<'a, O: Object>(
     task: &Task<'_, 'a, O>,
     here: &Here<O::State>,
     process: usize,
@@ -185,26 +186,12 @@ pub(crate) fn quiet_call<'a, O: Object>(
 {
     let limit = here.limit;
     let place = *here.found.counts.get(process)? as usize;
-    if !task.quiet.has(process, place) {
-        return None;
-    }
     let end = task.rows.ended_at(process, place)?;
     let begun = task.rows.begun_at(process, place)?;
     if begun.place >= limit {
         return None;
     }
     Some((begun, end))
-}
-
-/// What a call replied that was made.
-fn told_of<'a, S: Drop>(made: Made<'a, S>) -> Told<'a>
-    ensures call { result.call ≡ made.entry.call }
-    ensures reply { result.reply ≡ made.entry.reply }
-{
-    Told {
-        call: made.call,
-        reply: made.reply,
-    }
 }
 
 /// Looks for a silent call that may be taken.
@@ -218,11 +205,18 @@ pub(crate) fn any_silent_step<'a, O: Object>(
     ensures told { IfOk result (IsNever (O.effect task.now.object.now) (O.meaning here.now.found.now.state)) }
 {
     let mut made = None;
-    if !task.quiet.may_be_left(here.limit) {
+    if here.limit > task.quiet.until {
         return Ok(Silent::Never(None));
     }
-    for process in 0..here.found.counts.len() {
-        let Some((begun, end)) = quiet_call(task, here, process) else {
+    let counts = here.found.counts.as_slice();
+    for process in 0..counts.len() {
+        if !task
+            .quiet
+            .may_come(process, counts[process] as usize, here.limit)
+        {
+            continue;
+        }
+        let Some((begun, end)) = ended_call(task, here, process) else {
             continue;
         };
         if !task.object.is_silent(begun.call, end.reply) {
@@ -237,5 +231,8 @@ pub(crate) fn any_silent_step<'a, O: Object>(
     let Some(last) = made else {
         return Ok(Silent::Never(None));
     };
-    Ok(Silent::Never(Some(told_of(last))))
+    Ok(Silent::Never(Some(Told {
+        call: last.call,
+        reply: last.reply,
+    })))
 }

@@ -1,45 +1,55 @@
 //! Which call of a configuration is tried next: the one that begins first.
 
-ghost use Rattle.wf_order.specs.Turns.{IsFirstTurn, IsSooner};
+ghost use Rattle.std.specs.Prelude.{IfOk, length};
+ghost use Rattle.wf_order.specs.Turns.{AreTurns, IsFirstIn};
 
-use crate::rows::{Begun, Rows};
+use crate::rows::Rows;
+use ob_interface::NoMemory;
+use smallvec::SmallVec;
+use std::alloc::Global;
 
 /// A call that may be next, by its process and the place at which it begins.
-#[derive(Clone, Copy)]
+#[derive(Clone, Copy, Default)]
 pub(crate) struct Turn {
     pub process: usize,
     pub place: usize,
 }
 
-/// The call of a process, where it begins at a place or behind it, and sooner than that of the turn; else that of the turn.
-fn sooner(turn: Turn, from: usize, process: usize, begun: Begun) -> Turn
-    ensures { IsSooner turn from process begun.entry result }
+/// The next calls that begin at a place or behind it, and before the limit.
+pub(crate) fn turns_from(
+    alloc: Global,
+    rows: &Rows,
+    counts: &[u32],
+    from: usize,
+    limit: usize,
+) -> Result<SmallVec<Turn, 8>, NoMemory>
+    ensures { IfOk result (λ turns. AreTurns rows.now counts.now (length counts.now) from limit turns.items) }
 {
-    if begun.place < from {
-        return turn;
-    }
-    if begun.place >= turn.place {
-        return turn;
-    }
-    Turn {
-        process,
-        place: begun.place,
-    }
-}
-
-/// Of the next calls that begin at a place or behind it, and before the limit, the one that begins first. Where there is none,
-/// the place is the limit.
-pub(crate) fn next_turn(rows: &Rows, counts: &[u32], from: usize, limit: usize) -> Turn
-    ensures { IsFirstTurn rows.now counts.now from limit result }
-{
-    let mut turn = Turn {
-        process: counts.len(),
-        place: limit,
-    };
+    let mut turns = SmallVec::new(alloc);
     for (process, count) in counts.iter().enumerate() {
-        if let Some(begun) = rows.begun_at(process, *count as usize) {
-            turn = sooner(turn, from, process, begun);
+        let Some(begun) = rows.begun_at(process, *count as usize) else {
+            continue;
+        };
+        let place = begun.place;
+        if place < limit && place >= from {
+            turns.push(Turn { process, place })?;
         }
     }
-    turn
+    Ok(turns)
+}
+
+/// Of these calls the one that begins first, at a place or behind it. Where there is none, the place is the limit.
+pub(crate) fn first_turn(turns: &[Turn], from: usize, limit: usize) -> Turn
+    ensures { IsFirstIn turns.now from limit result }
+{
+    let mut first = Turn {
+        process: 0,
+        place: limit,
+    };
+    for turn in turns {
+        if turn.place >= from && turn.place < first.place {
+            first = *turn;
+        }
+    }
+    first
 }

@@ -8,13 +8,14 @@ ghost use Rattle.wf_parts.specs.Numbering.{PartView};
 ghost use Rattle.wf_parts.specs.Split.{Begins, Ends, last_id, next_id, with_entry};
 ghost use Rattle.wf_parts.specs.View.{parts_in};
 
+use crate::copying::{kept_call, kept_reply};
 use crate::part::Part;
 use crate::scalar_number::label_of;
 use ob_interface::NoMemory;
 use ob_interface::scalar::Scalar;
 use std::alloc::Global;
 use std::collections::HashMap;
-use wf_history::{CallId, KeptCall, KeptReply, KeptScalars, SeenCall, SeenReply};
+use wf_history::{CallId, KeptCall, KeptReply, SeenCall, SeenReply};
 
 /// The parts so far.
 #[derive(Drop)]
@@ -24,29 +25,6 @@ pub(crate) struct Split {
     /// At which place the part of the call stands that a process began last.
     last: HashMap<usize, usize>,
     pub parts: Vec<Part>,
-}
-
-/// A copy of the call.
-fn copy_call(alloc: Global, call: SeenCall) -> Result<KeptCall, NoMemory>
-    ensures { IfOk result (λ c. kept_call c ≡ seen_call call.entry) }
-{
-    Ok(KeptCall {
-        proc: call.proc,
-        args: KeptScalars::from_slice(alloc, call.args.lent().as_slice())?,
-    })
-}
-
-/// A copy of the reply.
-fn copy_reply(alloc: Global, reply: SeenReply) -> Result<KeptReply, NoMemory>
-    ensures { IfOk result (λ r. kept_reply r ≡ seen_reply reply.entry) }
-{
-    match reply {
-        SeenReply::Done(values) => Ok(KeptReply::Done(KeptScalars::from_slice(
-            alloc,
-            values.lent().as_slice(),
-        )?)),
-        SeenReply::Trap(number) => Ok(KeptReply::Trap(number)),
-    }
 }
 
 /// One more entry.
@@ -131,7 +109,7 @@ impl Split {
             → OnOk result (AreSplit all by (front ++ Begin id (seen_call call.entry) ∷ []) (split_in self.new)) }
     {
         let place = self.place_of(alloc, value)?;
-        let kept = copy_call(alloc, call)?;
+        let kept = kept_call(alloc, call)?;
         begin_at(&mut self.parts, place, id, kept)?;
         insert(&mut self.last, id.process, place)?;
         Ok(())
@@ -151,7 +129,7 @@ impl Split {
         let Some(place) = look_up(&self.last, id.process) else {
             unreachable!();
         };
-        let kept = copy_reply(alloc, reply)?;
+        let kept = kept_reply(alloc, reply)?;
         end_at(&mut self.parts, place, id, kept)
     }
 }

@@ -1,10 +1,10 @@
 -- By the turns, one after the other.
-use Rattle.std.proofs.Common.{subst, ℕ, ◌<◌, List, get_or, arith}
+use Rattle.std.proofs.Common.{◌<◌, get_or, arith}
 use Rattle.std.proofs.lemmas.Option.{MatchOption-at_none, MatchOption-at_some}
 use Rattle.wf_order.specs.Rows.{call_at}
 use Rattle.wf_order.specs.Search.{found_in, AreAnswered, IsNextStep}
 use Rattle.wf_order.specs.Steps.{one_more}
-use Rattle.wf_order.specs.Turns.{IsFirstTurn}
+use Rattle.wf_order.proofs.Turning.{first_here}
 use Rattle.wf_order.proofs.Attempts.{all_covered, all_tried, attempt, covered_more, covered_none, turns_left}
 use Rattle.wf_order.proofs.attempt.next_attempt.Goals as goal
 
@@ -15,17 +15,19 @@ loop-start-init g c = (
     covered_none (g.O.Object.effect c.args.task.now.object.now) history c.args.task.now.rows.now found (found_in g.O.Object.meaning c.args.here.now.found.now) at.0 c.args.here.now.limit at.1 c.args.from,
     omega arith,
   ),
+  omega arith,
 )
 
-pub told_at-requires : goal.told_at-requires
-told_at-requires g c = c.loop-start.invariant.0
+pub note_told-requires : goal.note_told-requires
+note_told-requires g c = c.loop-start.invariant.0
 
 pub returns-then-turn-limit-clause-next : goal.returns-then-turn-limit-clause-next
 returns-then-turn-limit-clause-next g c = λ history found at.
     let here = found_in g.O.Object.meaning c.args.here.now.found.now in
     let limit = c.args.here.now.limit in
-    let turn = c.next_turn-turn.result in
-    let first = subst (λ (l : List ℕ). IsFirstTurn c.args.task.now.rows.now l c.loop-start.start limit turn) c.deref.ensures c.next_turn-turn.ensures in
+    let turn = c.first_turn-turn.result in
+    let first = first_here c.args.task.now.rows.now c.deref.result.now c.args.here.now.found.now.counts.items c.deref.ensures c.args.from c.loop-start.start limit c.in_ok-turns.turns.items c.as_slice.result.now c.as_slice.ensures turn
+    c.in_ok-turns.ensures c.loop-start.invariant.2 c.first_turn-turn.ensures in
     all_tried (g.O.Object.effect c.args.task.now.object.now) history c.args.task.now.rows.now found here at.0 limit at.1 c.args.from
     c.loop-start.start (c.loop-start.invariant.1 history found at).0 turn first c.if-turn-limit.true
 
@@ -35,38 +37,42 @@ returns-in-Some-clause-next g c = λ history found at.
     let view = found_in g.O.Object.meaning in
     let here = view c.args.here.now.found.now in
     let limit = c.args.here.now.limit in
-    let turn = c.next_turn-turn.result in
-    let first = subst (λ (l : List ℕ). IsFirstTurn c.args.task.now.rows.now l c.loop-start.start limit turn) c.deref.ensures c.next_turn-turn.ensures in
+    let turn = c.first_turn-turn.result in
+    let first = first_here c.args.task.now.rows.now c.deref.result.now c.args.here.now.found.now.counts.items c.deref.ensures c.args.from c.loop-start.start limit c.in_ok-turns.turns.items c.as_slice.result.now c.as_slice.ensures turn
+    c.in_ok-turns.ensures c.loop-start.invariant.2 c.first_turn-turn.ensures in
     let early : turn.place < limit = let f = c.if-turn-limit.false in omega (arith, f) in
     let covered = c.loop-start.invariant.1 history found at in
     let after = g.O.Object.meaning c.in-Some.state in
-    let only = MatchOption-at_some (AreAnswered effect history found here turn.process) (λ s. IsNextStep effect history here turn.process (g.O.Object.meaning s)) c.in-Some.state c.in-Some.is (c.in_ok-state.ensures history found at c.in_ok-told.ensures) in
+    let only = MatchOption-at_some (AreAnswered effect history found here turn.process) (λ s. IsNextStep effect history here turn.process (g.O.Object.meaning s)) c.in-Some.state c.in-Some.is (c.in_ok-state.ensures history found at c.in_ok-note_told.ensures) in
     attempt effect history c.args.task.now.rows.now found here at.0 limit at.1 c.args.from c.loop-start.start covered.0 turn first early covered.1 (call_at turn.process (get_or here.counts turn.process 0)) (one_more here.counts turn.process after) only
 
 pub returns-in-Some-clause-within : goal.returns-in-Some-clause-within
 returns-in-Some-clause-within g c =
-    let turn = c.next_turn-turn.result in
-    let first = subst (λ (l : List ℕ). IsFirstTurn c.args.task.now.rows.now l c.loop-start.start c.args.here.now.limit turn) c.deref.ensures c.next_turn-turn.ensures in
+    let turn = c.first_turn-turn.result in
+    let first = first_here c.args.task.now.rows.now c.deref.result.now c.args.here.now.found.now.counts.items c.deref.ensures c.args.from c.loop-start.start c.args.here.now.limit c.in_ok-turns.turns.items c.as_slice.result.now c.as_slice.ensures turn
+    c.in_ok-turns.ensures c.loop-start.invariant.2 c.first_turn-turn.ensures in
     let own = first.own (let f = c.if-turn-limit.false in omega (arith, f)) in
     own.1
 
 pub loop-start-preserved : goal.loop-start-preserved
 loop-start-preserved g c = (
-  c.in_ok-told.ensures,
+  c.in_ok-note_told.ensures,
   λ history found at.
       let effect = g.O.Object.effect c.args.task.now.object.now in
       let view = found_in g.O.Object.meaning in
       let here = view c.args.here.now.found.now in
       let limit = c.args.here.now.limit in
-      let turn = c.next_turn-turn.result in
-      let first = subst (λ (l : List ℕ). IsFirstTurn c.args.task.now.rows.now l c.loop-start.start limit turn) c.deref.ensures c.next_turn-turn.ensures in
+      let turn = c.first_turn-turn.result in
+      let first = first_here c.args.task.now.rows.now c.deref.result.now c.args.here.now.found.now.counts.items c.deref.ensures c.args.from c.loop-start.start limit c.in_ok-turns.turns.items c.as_slice.result.now c.as_slice.ensures turn
+      c.in_ok-turns.ensures c.loop-start.invariant.2 c.first_turn-turn.ensures in
       let early : turn.place < limit = let f = c.if-turn-limit.false in omega (arith, f) in
       let covered = c.loop-start.invariant.1 history found at in
-      let answered = MatchOption-at_none (AreAnswered effect history found here turn.process) (λ s. IsNextStep effect history here turn.process (g.O.Object.meaning s)) c.in-None.is (c.in_ok-state.ensures history found at c.in_ok-told.ensures) in
+      let answered = MatchOption-at_none (AreAnswered effect history found here turn.process) (λ s. IsNextStep effect history here turn.process (g.O.Object.meaning s)) c.in-None.is (c.in_ok-state.ensures history found at c.in_ok-note_told.ensures) in
       let left = turns_left effect history c.args.task.now.rows.now found here at.0 limit at.1 c.args.from c.loop-start.start covered.0 turn first early covered.1 in (
         covered_more effect history c.args.task.now.rows.now found here at.0 limit at.1 c.args.from c.loop-start.start covered.0 turn first early answered,
         omega (arith, left),
       ),
+  (let le = c.loop-start.invariant.2 in let low = c.first_turn-turn.ensures.own (let f = c.if-turn-limit.false in omega (arith, f)) in let behind = low.1 in omega (arith, le, behind)),
 )
 
 pub returns-clause-next : goal.returns-clause-next

@@ -15,6 +15,7 @@ invariant-loop-start g l =
     × ((history : List (Event ObjectCall Reply)) (found : List (Configuration g.O.Object.Meaning)) → IsAt history l.task.rows.now l.here →
     AreCovered (g.O.Object.effect l.task.object.now) history found (found_in g.O.Object.meaning l.here.found.now) l.from l.start
     × (turns l.start (begun_rows l.task.rows.now) l.here.found.now.counts.items ≤ turns l.from (begun_rows l.task.rows.now) l.here.found.now.counts.items))
+    × (l.from ≤ l.start)
 
 abbrev pub decreases-loop-start : goal.decreases-loop-start
 decreases-loop-start g l = l.limit - l.start

@@ -1,19 +1,19 @@
 -- Round after round, until one leaves out none.
-use Rattle.std.proofs.Common.{◌∙◌, List, ap, refl, slice_get, subst}
+use Rattle.std.proofs.Common.{◌∙◌, List, ap, arith, refl, slice_get, subst}
 use Rattle.wf_order.proofs.Rounds.{left_twice, none_open}
 use Rattle.wf_order.proofs.needed.thinned.Goals as goal
 use Rattle.wf_order.specs.Listed.{IsThinner}
 use Rattle.wf_order.specs.Needed.{nothing}
 use Rattle.wf_order.specs.declared.listed.Listed.{Listed}
 
-pub returns-then-not-any_open-clause-left_out : goal.returns-then-not-any_open-clause-left_out
-returns-then-not-any_open-clause-left_out g c = nothing refl
+pub returns-then-open_until-eq0-clause-left_out : goal.returns-then-open_until-eq0-clause-left_out
+returns-then-open_until-eq0-clause-left_out g c = nothing refl
 
-pub returns-then-not-any_open-clause-needed : goal.returns-then-not-any_open-clause-needed
-returns-then-not-any_open-clause-needed g c =
-    let none = c.any_open.ensures (λ t. let f = c.if-not-any_open.true in absurd (cc)) in
+pub returns-then-open_until-eq0-clause-needed : goal.returns-then-open_until-eq0-clause-needed
+returns-then-open_until-eq0-clause-needed g c =
+    let zero = c.if-open_until-eq0.true in
     none_open (g.O.Object.effect c.args.object.now) (g.O.Object.opening c.args.object.now) c.args.all.items
-    (λ k d at. none k d (ap (λ (cs : List Listed). slice_get cs k) c.as_slice.ensures.value ∙ at))
+    (λ k d at. c.open_until.ensures.none k d (ap (λ (cs : List Listed). slice_get cs k) c.as_slice.ensures.value ∙ at) (omega (arith, zero)))
 
 pub loop-alloc-init : goal.loop-alloc-init
 loop-alloc-init g c = (

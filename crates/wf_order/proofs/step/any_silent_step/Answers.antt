@@ -1,6 +1,6 @@
 -- The call that is taken is silent, and what it makes is known.
-use Rattle.std.proofs.Common.{refl, sym, ap, subst, get_or}
-use Rattle.ob_interface.specs.Call.{ObjectCall, Reply}
+use Rattle.std.proofs.Common.{refl, subst, get_or}
+use Rattle.ob_interface.specs.Call.{ObjectCall}
 use Rattle.ob_interface.specs.View.{reply_of}
 use Rattle.wf_history.specs.View.{seen_call}
 use Rattle.wf_order.specs.Search.{found_in, IsMade}
@@ -24,9 +24,4 @@ returns-clause-told g c =
     let effect = g.O.Object.effect c.args.task.now.object.now in
     let before = g.O.Object.meaning c.args.here.now.found.now.state in
     let last = c.in-Some-made.last in
-    let after = g.O.Object.meaning last.state in
-    let made = some_at (IsMade g.O.Object.meaning effect before) c.loop-process.made last c.in-Some-made.is c.loop-process.invariant in (
-      after,
-      subst (λ (x : ObjectCall). effect x before after (reply_of c.told_of.result.reply)) (sym (ap seen_call c.told_of.ensures.call))
-          (subst (λ (r : Reply). effect (seen_call last.call) before after r) (sym (ap reply_of c.told_of.ensures.reply)) made),
-    )
+    (g.O.Object.meaning last.state, some_at (IsMade g.O.Object.meaning effect before) c.loop-process.made last c.in-Some-made.is c.loop-process.invariant)

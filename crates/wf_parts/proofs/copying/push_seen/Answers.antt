@@ -3,7 +3,7 @@ use Rattle.ob_interface.specs.Call.{ObjectCall, Reply}
 use Rattle.wf_history.specs.History.{Event, Begin, Applied, End, IsHistory}
 use Rattle.wf_history.specs.View.{kept_call, kept_reply, seen_event}
 use Rattle.wf_history.specs.declared.event.CallId.{CallId}
-use Rattle.wf_order.proofs.copying.push_seen.Goals as goal
+use Rattle.wf_parts.proofs.copying.push_seen.Goals as goal
 
 pub push_begin-requires : goal.push_begin-requires
 push_begin-requires c =

@@ -1,5 +1,5 @@
 use Rattle.std.proofs.Common.{◌≡◌, map, take}
-use Rattle.wf_order.proofs.copying.copied.Given as goal
+use Rattle.wf_parts.proofs.copying.copied.Given as goal
 use Rattle.wf_history.specs.View.{event_of}
 
 abbrev pub invariant-loop-event : goal.invariant-loop-event

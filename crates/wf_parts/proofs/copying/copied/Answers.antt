@@ -4,7 +4,7 @@ use Rattle.wf_order.proofs.Nexts.{next_whole, taken_next}
 use Rattle.wf_history.specs.History.{Event, IsHistory}
 use Rattle.wf_history.specs.View.{event_of}
 use Rattle.wf_order.proofs.Lists.{item_here}
-use Rattle.wf_order.proofs.copying.copied.Goals as goal
+use Rattle.wf_parts.proofs.copying.copied.Goals as goal
 
 pub push_seen-requires : goal.push_seen-requires
 push_seen-requires c =

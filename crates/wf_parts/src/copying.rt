@@ -12,7 +12,7 @@ use wf_history::{
 };
 
 /// The call, to be kept.
-fn kept_call(alloc: Global, call: SeenCall) -> Result<KeptCall, NoMemory>
+pub(crate) fn kept_call(alloc: Global, call: SeenCall) -> Result<KeptCall, NoMemory>
     ensures { IfOk result (λ kept. kept_call kept ≡ seen_call call.entry) }
 {
     Ok(KeptCall {
@@ -22,7 +22,7 @@ fn kept_call(alloc: Global, call: SeenCall) -> Result<KeptCall, NoMemory>
 }
 
 /// The reply, to be kept.
-fn kept_reply(alloc: Global, reply: SeenReply) -> Result<KeptReply, NoMemory>
+pub(crate) fn kept_reply(alloc: Global, reply: SeenReply) -> Result<KeptReply, NoMemory>
     ensures { IfOk result (λ kept. kept_reply kept ≡ seen_reply reply.entry) }
 {
     match reply {
