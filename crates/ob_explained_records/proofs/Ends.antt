@@ -3,8 +3,8 @@ use Rattle.std.proofs.Common.{◌≡◌, ◌∙◌, ℕ, ◌+◌, ◌-◌, ◌<�
 use Rattle.ob_explained_records.specs.ExplainedHistories.{IsFirstEnd, NamesFirst, SaysEnd}
 use Rattle.ob_explained_lines.proofs.Firsts.{HoldsOfNone, item_here}
 use Rattle.ob_text_reading.specs.HistoryLines.{process_numbers}
-use Rattle.ob_text_reading.proofs.Ids.{one_id}
-use Rattle.ob_text_reading.specs.LineReading.{TakesId}
+use Rattle.ob_text_values_reading.proofs.Ids.{one_id}
+use Rattle.ob_text_values_reading.specs.CallNames.{TakesId}
 use Rattle.ob_text_reading.specs.RecordLines.{IsId}
 use Rattle.ob_text_words.specs.Words.{Word, words}
 use Rattle.wf_history.specs.declared.event.CallId.{CallId}

@@ -5,12 +5,13 @@ use Rattle.ob_interface.specs.Export.{Signature}
 use Rattle.ob_text_reading.specs.RecordLines as Lines
 use Rattle.ob_text_reading.specs.RecordLines.{AreLines, IsEvent, IsNextEvent, IsOrder, IsTail, Line}
 use Rattle.ob_text_reading.specs.LineReading as Reading
-use Rattle.ob_text_reading.specs.LineReading.{BeginsLines, FailsBehind, FaultBehind, IsFirstOther, SaysNothing}
+use Rattle.ob_text_reading.specs.LineReading.{BeginsLines, FailsBehind, FaultBehind, SaysNothing}
+use Rattle.ob_text_values_reading.specs.RecordTexts.{IsFirstOther}
 use Rattle.ob_text_reading.proofs.OneEvent.{applied_not_order, event_not_order}
 use Rattle.ob_text_reading.proofs.LineRuns.{AreEvents, begins, ends_here, ends_missing, lines_behind, whole}
 use Rattle.wf_history.specs.declared.event.CallId.{CallId}
 use Rattle.wf_history.specs.History.{Event, Begin, Applied, End}
-use Rattle.ob_text_reading.proofs.Ids.{id_below}
+use Rattle.ob_text_values_reading.proofs.Ids.{id_below}
 
 pub all_first : (P : Line → Type 0) (xs : List Line) (x : Line) (ys : List Line) → All P (xs ++ x ∷ ys) → P x
 all_first P [] x ys h = h 0 x (omega arith)

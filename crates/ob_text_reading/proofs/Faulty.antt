@@ -41,6 +41,9 @@ module _ (program : Program) where
   pub number_within : (all left : List Line) (h : Heard) (number : ℕ) → ReadTo all left h number → number + length left ≡ length all
   number_within all left h number r = let long = ap length r.parts ∙ length-append r.before left in omega (arith, long, r.counted)
 
+  pub read_same : (all left : List Line) (h i : Heard) (number : ℕ) → ReadTo all left h number → i ≡ h → ReadTo all left i number
+  read_same all left h i number r is = subst (λ (x : Heard). ReadTo all left x number) (sym is) r
+
   module _ (all left rest : List Line) (line : Line) (h : Heard) (number : ℕ) (r : ReadTo all left h number) (is : left ≡ line ∷ rest) where
     read_parts : all ≡ r.before ++ line ∷ rest
     read_parts = r.parts ∙ ap (λ ls. r.before ++ ls) is

@@ -1,8 +1,9 @@
 -- What a line of one kind leads to.
 use Rattle.std.proofs.Common.{◌≡◌, Result, IfOk, Option, sym, subst}
-use Rattle.ob_text_reading.specs.Reading.{Heard, Leads, LeadsAs, kind_of}
+use Rattle.ob_text_reading.specs.Reading.{Heard, Leads, LeadsAs}
+use Rattle.ob_text_values_reading.specs.LineKinds.{kind_of}
 use Rattle.ob_text_reading.specs.HistoryContents.{heard_of}
-use Rattle.ob_text_reading.specs.declared.kind.LineKind.{LineKind}
+use Rattle.ob_text_values_reading.specs.declared.kind.LineKind.{LineKind}
 use Rattle.ob_text_reading.specs.declared.reader.Reader.{Reader}
 use Rattle.ob_text_reading.specs.RecordLines.{Line}
 use Rattle.ob_text_words.specs.Finding.{FindsAs}

@@ -1,10 +1,8 @@
 pub mod Counting
 pub mod Faults
 pub mod Faulty
-mod Fronts
 pub mod Growing
 pub mod HistoryPlaces
-pub mod Ids
 pub mod KindsLed
 pub mod LineRuns
 pub mod Naming
@@ -20,6 +18,5 @@ pub mod Seating
 pub mod Steps
 pub mod Telling
 pub mod Whole
-pub mod WordsTaken
-mod WrittenValues
-mod WrittenWords
+mod NamedLines
+mod WrittenLines

@@ -5,12 +5,10 @@ use Rattle.ob_interface.specs.Export.{Signature}
 use Rattle.ob_text_reading.specs.RecordLines as Lines
 use Rattle.ob_text_reading.specs.RecordLines.{AreLines, IsApplied, IsNextEvent, IsOrder, IsTail, Line}
 use Rattle.ob_text_reading.specs.LineReading.{BeginsLines, SaysNothing}
+use Rattle.ob_text_values_reading.proofs.Tails.{no_tails}
 use Rattle.ob_text_reading.proofs.OneEvent.{applied_not_order, event_not_applied, event_not_order, one_event, one_order}
 use Rattle.wf_history.specs.declared.event.CallId.{CallId}
 use Rattle.wf_history.specs.History.{Event}
-
-pub no_tails : All IsTail []
-no_tails i d within = absurd (omega arith)
 
 module _ (processes : ℕ) (signatures : List Signature) where
   -- behind these events, lines of events that lead to those

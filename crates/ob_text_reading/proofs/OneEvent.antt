@@ -17,7 +17,7 @@ use Rattle.ob_text_reading.specs.LineReading.{HasSaid, IsAppliedRead, IsOrderRea
 use Rattle.ob_text_reading.specs.Seats.{EndsCall}
 use Rattle.ob_text_reading.specs.declared.line.Line as Rust
 use Rattle.ob_text_reading.specs.declared.line.Line.TheVariants as Says
-use Rattle.ob_text_reading.proofs.Ids.{one_id, one_ids, one_numeral}
+use Rattle.ob_text_values_reading.proofs.Ids.{one_id, one_ids, one_numeral}
 use Rattle.ob_text_words.proofs.OneList.{one_list}
 use Rattle.wf_history.specs.declared.event.CallId.{CallId}
 use Rattle.wf_history.specs.History.{Event, Begin, End, IsHistory, own_calls}

@@ -5,8 +5,9 @@ use Rattle.std.proofs.lemmas.Option.{same_Some}
 use Rattle.ob_meaning.specs.ByPositionValue.{Value}
 use Rattle.ob_text_reading.specs.HistoryLines as Lines
 use Rattle.ob_text_reading.specs.HistoryLines.{IsAnyCount}
-use Rattle.ob_text_reading.specs.Reading.{FindsProcess, Heard, Opens}
-use Rattle.ob_text_reading.specs.declared.kind.Stage.{Stage}
+use Rattle.ob_text_reading.specs.Reading.{Heard, Opens}
+use Rattle.ob_text_values_reading.specs.Numbers.{FindsProcess}
+use Rattle.ob_text_values_reading.specs.declared.kind.Stage.{Stage}
 use Rattle.ob_meaning.specs.ByPositionStore.{Activation}
 use Rattle.ob_interface.specs.Call.{ObjectCall, Reply}
 use Rattle.wf_history.specs.History.{Event}

@@ -8,10 +8,11 @@ use Rattle.ob_meaning.specs.ByPositionStore.{Activation, Holds}
 use Rattle.ob_interface.specs.Call.{ObjectCall, Reply}
 use Rattle.ob_text_reading.specs.HistoryLines as Lines
 use Rattle.ob_text_reading.specs.HistoryLines.{AreEventLines, AtMostOne, HistoryTold, IsAnyCount, IsAnyTitle, IsFront, IsHistoryOf, IsHistoryPart, TellsBudget, TellsOpening, is_said}
-use Rattle.ob_text_reading.specs.Reading.{Heard, LeadsAs, NamesCalls, at_stage, at_start, carried_in, is_opened, kind_of, place, told_in}
-use Rattle.ob_text_reading.specs.declared.kind.LineKind.{LineKind}
-use Rattle.ob_text_reading.specs.declared.kind.LineKind.TheVariants as Kinds
-use Rattle.ob_text_reading.specs.declared.kind.Stage.TheVariants as Stages
+use Rattle.ob_text_reading.specs.Reading.{Heard, LeadsAs, NamesCalls, at_stage, at_start, carried_in, is_opened, place, told_in}
+use Rattle.ob_text_values_reading.specs.LineKinds.{kind_of}
+use Rattle.ob_text_values_reading.specs.declared.kind.LineKind.{LineKind}
+use Rattle.ob_text_values_reading.specs.declared.kind.LineKind.TheVariants as Kinds
+use Rattle.ob_text_values_reading.specs.declared.kind.Stage.TheVariants as Stages
 use Rattle.ob_text_reading.proofs.Steps.{AreSaid, Steps, here, more, next, said_apart}
 use Rattle.ob_text_reading.specs.Openings as Openings
 use Rattle.ob_text_reading.specs.Openings.{AreOpenings}

@@ -5,10 +5,11 @@ use Rattle.ob_meaning.specs.ByPositionStore.{Holds}
 use Rattle.ob_meaning.specs.ByPositionValue.{Value}
 use Rattle.ob_interface.specs.Call.{ObjectCall, Reply}
 use Rattle.ob_text_reading.specs.HistoryLines.{is_said, said}
-use Rattle.ob_text_reading.specs.Reading.{Heard, Leads, LeadsAs, kind_of, kind_of_byte}
-use Rattle.ob_text_reading.specs.declared.kind.LineKind.{LineKind}
-use Rattle.ob_text_reading.specs.declared.kind.LineKind.TheVariants as Kinds
-use Rattle.ob_text_reading.specs.declared.kind.Stage.TheVariants as Stages
+use Rattle.ob_text_reading.specs.Reading.{Heard, Leads, LeadsAs}
+use Rattle.ob_text_values_reading.specs.LineKinds.{kind_of, kind_of_byte}
+use Rattle.ob_text_values_reading.specs.declared.kind.LineKind.{LineKind}
+use Rattle.ob_text_values_reading.specs.declared.kind.LineKind.TheVariants as Kinds
+use Rattle.ob_text_values_reading.specs.declared.kind.Stage.TheVariants as Stages
 use Rattle.ob_text_reading.proofs.OneEvent.{one_budget, one_event}
 use Rattle.ob_text_reading.proofs.OpeningLines.{one_opening}
 use Rattle.ob_text_reading.specs.Openings.{IsOpening}

@@ -4,7 +4,7 @@ use Rattle.ob_interface.specs.Call.{ObjectCall, Reply}
 use Rattle.ob_interface.specs.Export.{Signature}
 use Rattle.ob_text_reading.specs.HistoryLines.{HasFewProcesses, IsNamedEvent, process_numbers}
 use Rattle.ob_text_reading.specs.Names.{MayCome}
-use Rattle.ob_text_reading.proofs.Ids.{one_id}
+use Rattle.ob_text_values_reading.proofs.Ids.{one_id}
 use Rattle.ob_text_reading.proofs.OneEvent.{event_parts, first_byte, first_word, other_words}
 use Rattle.ob_text_reading.specs.RecordLines.{IsId}
 use Rattle.ob_text_words.specs.Words.{Word}

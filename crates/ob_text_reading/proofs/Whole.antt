@@ -7,11 +7,14 @@ use Rattle.ob_meaning.specs.ByPositionStore.{Activation, Holds}
 use Rattle.ob_interface.specs.Call.{ObjectCall, Reply}
 use Rattle.ob_text_reading.specs.HistoryLines as Lines
 use Rattle.ob_text_reading.specs.HistoryLines.{AreEventLines, AtMostOne, HistoryTold, IsAnyCount, IsAnyTitle, IsFront, IsHistoryOf, IsHistoryPart, IsNamedEvent, TellsBudget, TellsOpening, process_numbers}
-use Rattle.ob_text_reading.specs.Reading.{Heard, Leads, LeadsAs, NamesCalls, at_start, carried_in, is_opened, kind_of, place, told_in}
-use Rattle.ob_text_reading.specs.declared.kind.LineKind.{LineKind}
-use Rattle.ob_text_reading.specs.declared.kind.LineKind.TheVariants as Kinds
-use Rattle.ob_text_reading.specs.declared.kind.Stage.{Stage}
-use Rattle.ob_text_reading.specs.declared.kind.Stage.TheVariants as Stages
+use Rattle.ob_text_reading.specs.LineReading.{TakesLine}
+use Rattle.ob_text_reading.specs.Reading as Reading
+use Rattle.ob_text_reading.specs.Reading.{GoesOn, Heard, Leads, LeadsAs, NamesCalls, at_start, carried_in, is_opened, place, told_in}
+use Rattle.ob_text_values_reading.specs.LineKinds.{kind_of}
+use Rattle.ob_text_values_reading.specs.declared.kind.LineKind.{LineKind}
+use Rattle.ob_text_values_reading.specs.declared.kind.LineKind.TheVariants as Kinds
+use Rattle.ob_text_values_reading.specs.declared.kind.Stage.{Stage}
+use Rattle.ob_text_values_reading.specs.declared.kind.Stage.TheVariants as Stages
 use Rattle.ob_text_reading.proofs.Rest.{opened_all}
 use Rattle.ob_text_reading.proofs.Steps.{Steps, here, joined, next, one_end}
 use Rattle.ob_text_reading.proofs.OneEvent.{event_parts}
@@ -112,17 +115,28 @@ module _ (program : Program) where
       let first : IsTail line = All-head IsTail line ls h in
       next (led _ _ _ (tail_kind first) (refl, first, refl)) (tails_lead b held events ls (All-tail IsTail line ls h))
 
+  -- a line of an event or of applied calls leads on, where it may stand
+  goes_on : (h : Heard) (line : Line) (after : List (Event ObjectCall Reply)) → place h.stage < 6 → IsTrue (is_opened program.variables h.held) →
+      GoesOn (signatures program) h.events line after → Leads program h line (heard Stages.Events h.budget h.held after)
+  goes_on h line after early opened (Reading.event {e = e} n) =
+      led _ _ _ (event_kind n.next.form) (record { e = e; early = early; opened = opened; says = n; after = refl })
+  goes_on h line after early opened (Reading.applied n) = let k = applied_kind n in led _ _ _ k.0 (early, opened, k.1, refl)
+
+  pub line_goes_on : (h : Heard) (text : List ℕ) (after : List (Event ObjectCall Reply)) (rest : List ℕ) → place h.stage < 6 →
+      IsTrue (is_opened program.variables h.held) → TakesLine (GoesOn (signatures program) h.events) text after rest →
+      TakesLine (Leads program h) text (heard Stages.Events h.budget h.held after) rest
+  line_goes_on h text after rest early opened t = record { line = t.line; parts = t.parts; leads = goes_on h t.line after early opened t.leads }
+
   events_lead : (stage : Stage) (b : Option ℕ) (held : Activation) → IsTrue (is_opened program.variables held) → place stage < 6 →
       {before all : List (Event ObjectCall Reply)} {ls : List Line} → AreEventLines (signatures program) before ls all →
       (last : Stage) × Steps program (heard stage b held before) ls (heard last b held all)
   events_lead stage b held opened early Lines.over = (stage, here)
-  events_lead stage b held opened early (Lines.event {before = before} {e = e} n hs) =
+  events_lead stage b held opened early (Lines.event n hs) =
       let rest = events_lead Stages.Events b held opened (omega arith) hs in
-      (rest.0, next (led _ _ _ (event_kind n.next.form) (record { e = e; early = early; opened = opened; says = n; after = refl })) rest.1)
+      (rest.0, next (goes_on _ _ _ early opened (Reading.event n)) rest.1)
   events_lead stage b held opened early (Lines.applied n hs) =
       let rest = events_lead Stages.Events b held opened (omega arith) hs in
-      let k = applied_kind n in
-      (rest.0, next (led _ _ _ k.0 (early, opened, k.1, refl)) rest.1)
+      (rest.0, next (goes_on _ _ _ early opened (Reading.applied n)) rest.1)
   events_lead stage b held opened early (Lines.order {all = all} {rest = rest} n tails) =
       let k = order_kind n in
       (Stages.Order, next (led _ _ _ k.0 (early, opened, k.1, refl)) (tails_lead b held all rest tails))

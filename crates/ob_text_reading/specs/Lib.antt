@@ -3,9 +3,9 @@ pub mod HistoryContents
 pub mod HistoryLines
 pub mod LineReading
 pub mod Names
-pub mod Numbers
 pub mod Openings
 pub mod Reading
 pub mod RecordContents
 pub mod RecordLines
 pub mod Seats
+pub mod Traps

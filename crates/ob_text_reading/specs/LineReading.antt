@@ -1,19 +1,19 @@
 -- What is read of one line behind a record's head, and of all of them.
-use Rattle.std.specs.Prelude.{◌≡◌, ℕ, ◌+◌, List, [], ◌∷◌, ◌++◌, ◌==◌, ◌||◌, length, map, codes, Bool, true, All, Option, MatchOption}
+use Rattle.std.specs.Prelude.{◌≡◌, ℕ, ◌+◌, List, [], ◌∷◌, ◌++◌, length, map, codes, Option, Some, MatchOption}
 use Rattle.std.specs.Borrow.{Bor}
 use Rattle.ob_interface.specs.Call.{ObjectCall, Reply}
-use Rattle.ob_interface.specs.Export.{Signature}
-use Rattle.ob_interface.specs.declared.scalar.Scalar.{Scalar}
-use Rattle.ob_interface.specs.declared.scalar.ScalarType.{ScalarType}
+use Rattle.ob_interface.specs.Export.{Signature, value_types}
 use Rattle.ob_text_reading.specs.declared.line.Line as Rust
 use Rattle.ob_text_reading.specs.declared.line.Line.TheVariants as Says
 use Rattle.ob_text_reading.specs.declared.record_reading.RecordFault.{RecordFault}
 use Rattle.ob_text_reading.specs.declared.record_reading.RecordFault.TheVariants as Faults
-use Rattle.ob_text_reading.specs.RecordLines.{AreIds, AreLines, IsApplied, IsId, IsNextEvent, IsOrder, IsTail, Line}
-use Rattle.ob_text_words.specs.Values.{AreValues, IsValue}
-use Rattle.ob_text_words.specs.Words.{IsNumeral, Word, is_blank, lines, words}
+use Rattle.ob_text_reading.specs.RecordLines.{AreIds, AreLines, IsApplied, IsNextEvent, IsOrder, IsReply, Line}
+use Rattle.ob_text_reading.specs.Seats.{EndsCall}
+use Rattle.ob_text_words.specs.ExportNames.{export_named}
+use Rattle.ob_text_words.specs.Values.{AreValues}
+use Rattle.ob_text_words.specs.Words.{Word, lines, words}
 use Rattle.wf_history.specs.declared.event.CallId.{CallId}
-use Rattle.wf_history.specs.History.{Event, Begin, End}
+use Rattle.wf_history.specs.History.{Event, Begin, End, IsHistory}
 use Rattle.wf_history.specs.View.{kept_call, kept_reply}
 
 -- these words behind an O say this order
@@ -30,93 +30,42 @@ IsAppliedRead processes ws (Says.Begin id call) = ⊥
 IsAppliedRead processes ws (Says.End id reply) = ⊥
 IsAppliedRead processes ws (Says.Order ids) = ⊥
 
--- the first word of a line names a call, and this stands behind the word
-pub record TakesId (processes : ℕ) (line : List ℕ) (i : CallId) (rest : List ℕ) : Type 0 where
-  pub word : Word
-  pub parts : words line ≡ word ∷ words rest
-  pub names : IsId processes word i
-
--- the first word of a line names no call
-abbrev pub TakesNoId : ℕ → List ℕ → Type 0
-TakesNoId processes line = (word : Word) (rest : List Word) (i : CallId) → words line ≡ word ∷ rest → IsId processes word i → ⊥
-
--- a word ends where a text begins, and this stands behind it
-pub data EndsWord : List ℕ → List ℕ → Type 0 where
-  at_end : EndsWord [] []
-  at_blank : {b : ℕ} {rest : List ℕ} → is_blank b ≡ true → EndsWord (b ∷ rest) rest
-
--- what ends a word of a text: a blank or a line feed
-abbrev pub ends_word : ℕ → Bool
-ends_word b = is_blank b || (b == 10)
-
--- a text begins with the number of a process and a point, and this stands behind the point
-pub record BeginsWithProcess (text : List ℕ) (process : ℕ) (behind : List ℕ) : Type 0 where
-  pub word : Word
-  pub spells : IsNumeral word process
-  pub parts : text ≡ word ++ 46 ∷ behind
-
--- a text begins with the name of a call, and this stands behind it
-pub record BeginsWithId (processes : ℕ) (text : List ℕ) (i : CallId) (behind : List ℕ) : Type 0 where
-  pub word : Word
-  pub names : IsId processes word i
-  pub parts : text ≡ word ++ behind
-
--- a text begins with a byte, a space and the name of a call, and this stands behind it
-pub record BeginsLine (processes : ℕ) (text : List ℕ) (kind : ℕ) (i : CallId) (behind : List ℕ) : Type 0 where
-  pub line : List ℕ
-  pub parts : text ≡ kind ∷ 32 ∷ line
-  pub named : BeginsWithId processes line i behind
-
--- the first line of a text begins with a word, and this stands behind it
-abbrev pub BeginsWithWord : List ℕ → Word → List ℕ → Type 0
-BeginsWithWord text word behind = (l : Line) (ls : List Line) → map words (lines behind) ≡ l ∷ ls → map words (lines text) ≡ (word ∷ l) ∷ ls
-
--- the first line of a text begins with a value of a type, and this stands behind its word
-pub record BeginsWithValue (type : ScalarType) (text : List ℕ) (value : Scalar) (behind : List ℕ) : Type 0 where
-  pub word : Word
-  pub says : IsValue type word value
-  pub parts : BeginsWithWord text word behind
-
--- the first line of a text says values of these types, and this stands behind the line
-pub record TakesValues (types : List ScalarType) (text : List ℕ) (values : List Scalar) (rest : List ℕ) : Type 0 where
+-- the first line of a text leads to something, and this stands behind it
+pub record TakesLine {X : Type 0} (Leads : Line → X → Type 0) (text : List ℕ) (after : X) (rest : List ℕ) : Type 0 where
   pub line : Line
-  pub says : AreValues types line values
   pub parts : map words (lines text) ≡ line ∷ map words (lines rest)
+  pub leads : Leads line after
 
--- the first line of a text names calls, and this stands behind the line
-pub record TakesIds (processes : ℕ) (text rest : List ℕ) : Type 0 where
-  pub line : Line
-  pub ids : List CallId
-  pub names : AreIds processes line ids
-  pub parts : map words (lines text) ≡ line ∷ map words (lines rest)
+-- behind these events, a line leads to those
+pub data LeadsOn (processes : ℕ) (signatures : List Signature) (before : List (Event ObjectCall Reply)) (line : Line) : List (Event ObjectCall Reply) → Type 0 where
+  event : {e : Event ObjectCall Reply} → IsNextEvent processes signatures before line e → LeadsOn processes signatures before line (before ++ e ∷ [])
+  applied : IsApplied processes line → LeadsOn processes signatures before line before
 
-module _ (processes : ℕ) (signatures : List Signature) (before : List (Event ObjectCall Reply)) where
-  -- behind these events, a line leads to those
-  pub data LeadsOn (line : Line) : List (Event ObjectCall Reply) → Type 0 where
-    event : {e : Event ObjectCall Reply} → IsNextEvent processes signatures before line e → LeadsOn line (before ++ e ∷ [])
-    applied : IsApplied processes line → LeadsOn line before
+module _ (signatures : List Signature) (before : List (Event ObjectCall Reply)) (i : CallId) (text : List ℕ) (after : List (Event ObjectCall Reply)) (rest : List ℕ) where
+  -- the first line of a text says an export's name and arguments; the call that begins so may come next, and leads to those events
+  pub record TakesBegin : Type 0 where
+    pub name : Word
+    pub line : Line
+    pub parts : map words (lines text) ≡ (name ∷ line) ∷ map words (lines rest)
+    pub signature : Signature
+    pub call : ObjectCall
+    pub named : export_named signatures name ≡ Some (call.export, signature)
+    pub says : AreValues (value_types signature.formals) line call.arguments
+    pub turn : IsHistory (before ++ Begin i call ∷ [])
+    pub leads : after ≡ before ++ Begin i call ∷ []
 
-  -- the first line of a text leads to those events, and this stands behind it
-  pub record TakesLine (text : List ℕ) (after : List (Event ObjectCall Reply)) (rest : List ℕ) : Type 0 where
+  -- the first line of a text says a reply; the call may end with it, and leads to those events
+  pub record TakesEnd : Type 0 where
     pub line : Line
     pub parts : map words (lines text) ≡ line ∷ map words (lines rest)
-    pub leads : LeadsOn line after
+    pub export : ℕ
+    pub reply : Reply
+    pub ends : EndsCall before i export
+    pub says : IsReply signatures export line reply
+    pub leads : after ≡ before ++ End i reply ∷ []
 
-  -- behind a B and the name of a call, the first line of a text says how that call begins
-  pub record TakesBegin (i : CallId) (text : List ℕ) (after : List (Event ObjectCall Reply)) (rest : List ℕ) : Type 0 where
-    pub line : Line
-    pub parts : map words (lines text) ≡ line ∷ map words (lines rest)
-    pub leads : (word : Word) → IsId processes word i → LeadsOn (codes "B" ∷ word ∷ line) after
-
-  -- behind an E and the name of a call, the first line of a text says how that call ends
-  pub record TakesEnd (i : CallId) (text : List ℕ) (after : List (Event ObjectCall Reply)) (rest : List ℕ) : Type 0 where
-    pub line : Line
-    pub parts : map words (lines text) ≡ line ∷ map words (lines rest)
-    pub leads : (word : Word) → IsId processes word i → LeadsOn (codes "E" ∷ word ∷ line) after
-
--- where something of a text is taken up, it leads to the events and leaves the rest of which this holds; else the events stay
-abbrev pub TakesOrLeaves : (before after : List (Event ObjectCall Reply)) → (List (Event ObjectCall Reply) → List ℕ → Type 0) →
-    Option (Bor (List ℕ)) → Type 0
+-- where something of a text is taken up, it leads to what holds then and leaves the rest; else all stays as before
+abbrev pub TakesOrLeaves : {X : Type 0} → (before after : X) → (X → List ℕ → Type 0) → Option (Bor (List ℕ)) → Type 0
 TakesOrLeaves before after Takes taken = MatchOption taken (after ≡ before) (λ rest. Takes after rest.now)
 
 module _ (processes : ℕ) (signatures : List Signature) where
@@ -168,13 +117,3 @@ module _ (processes : ℕ) (signatures : List Signature) where
     abbrev pub FaultBehind : List Line → RecordFault → Type 0
     FaultBehind ls (Faults.Form number) = FailsBehind ls number
     FaultBehind ls Faults.NoMemory = Unit {0}
-
--- the line of this number, from 0, has neither S nor V for its first byte, and those before it have
-pub record IsFirstOther (ls : List Line) (number : ℕ) : Type 0 where
-  pub before : List Line
-  pub line : Line
-  pub rest : List Line
-  pub parts : ls ≡ before ++ line ∷ rest
-  pub counted : number ≡ length before
-  pub tails : All IsTail before
-  pub other : ¬ IsTail line

@@ -1,51 +1,25 @@
 -- How reading goes on: what has been heard so far, and what one more line makes of it.
-use Rattle.std.specs.Prelude.{◌≡◌, ℕ, ◌<◌, ◌==◌, ◌||◌, Bool, IsTrue, List, [], ◌∷◌, ◌++◌, if◌then◌else◌, length, slice_get, Option, Some, None, MatchOption}
+use Rattle.std.specs.Prelude.{◌≡◌, ℕ, ◌<◌, ◌==◌, ◌||◌, Bool, IsTrue, List, [], ◌∷◌, ◌++◌, length, map, slice_get, Option, Some, None}
 use Rattle.ob_checked.specs.Exports.{signatures}
 use Rattle.ob_interface.specs.Call.{ObjectCall, Reply}
+use Rattle.ob_interface.specs.Export.{Signature}
 use Rattle.ob_meaning.specs.ByPositionStore.{Activation, Holds}
 use Rattle.ob_meaning.specs.ByPositionValue.{Value}
 use Rattle.ob_text_reading.specs.HistoryLines.{HistoryTold, IsAnyCount, IsAnyTitle, IsNamedEvent, process_numbers}
 use Rattle.ob_text_reading.specs.declared.event.Said.{Said}
 use Rattle.ob_text_reading.specs.declared.event.Said.TheVariants as Says
-use Rattle.ob_text_reading.specs.declared.kind.LineKind.{LineKind}
-use Rattle.ob_text_reading.specs.declared.kind.LineKind.TheVariants as Kinds
-use Rattle.ob_text_reading.specs.declared.kind.Stage.{Stage}
-use Rattle.ob_text_reading.specs.declared.kind.Stage.TheVariants as Stages
+use Rattle.ob_text_values_reading.specs.declared.kind.LineKind.{LineKind}
+use Rattle.ob_text_values_reading.specs.declared.kind.LineKind.TheVariants as Kinds
+use Rattle.ob_text_values_reading.specs.declared.kind.Stage.{Stage}
+use Rattle.ob_text_values_reading.specs.declared.kind.Stage.TheVariants as Stages
 use Rattle.ob_text_reading.specs.Openings.{IsOpening}
-use Rattle.ob_text_reading.specs.RecordLines.{AreIds, IsBudget, IsTail, Line}
-use Rattle.ob_text_words.specs.Words.{IsProcess, Word}
+use Rattle.ob_text_reading.specs.RecordLines.{AreIds, IsApplied, IsBudget, IsId, IsTail, Line}
+pub use Rattle.ob_text_values_reading.specs.LineKinds.{kind_of, place}
+use Rattle.ob_text_words.specs.Words.{Word, lines, words}
 use Rattle.ob_typing.specs.Program.{Program, Variable}
 use Rattle.wf_history.specs.declared.event.CallId.{CallId}
 use Rattle.wf_history.specs.History.{Event, Begin, End}
 use Rattle.wf_history.specs.View.{kept_call, kept_reply}
-
--- stages come in this order
-abbrev pub place : Stage → ℕ
-place Stages.Start = 0
-place Stages.Title = 1
-place Stages.Count = 2
-place Stages.Budget = 3
-place Stages.Openings = 4
-place Stages.Events = 5
-place Stages.Order = 6
-
--- what the first byte of a line tells of its kind
-abbrev pub kind_of_byte : ℕ → LineKind
-kind_of_byte b =
-    if b == 35 then Kinds.Comment else
-    (if b == 111 then Kinds.Title else
-    (if b == 110 then Kinds.Count else
-    (if b == 98 then Kinds.Budget else
-    (if b == 73 then Kinds.Opening else
-    (if (b == 66) || (b == 69) then Kinds.Event else
-    (if b == 65 then Kinds.Applied else
-    (if b == 79 then Kinds.Order else
-    (if (b == 83) || (b == 86) then Kinds.Tail else Kinds.Other))))))))
-
-abbrev pub kind_of : Line → LineKind
-kind_of [] = Kinds.Comment
-kind_of ([] ∷ ws) = Kinds.Other
-kind_of ((b ∷ more) ∷ ws) = kind_of_byte b
 
 -- the last stage that the lines have come to, and what they have told
 pub record Heard : Type 0 where
@@ -83,6 +57,18 @@ abbrev pub event_said : Said → Event ObjectCall Reply
 event_said (Says.Begin id call) = Begin id (kept_call call)
 event_said (Says.End id reply) = End id (kept_reply reply)
 
+-- behind these events, a line of an event or of applied calls leads to those
+pub data GoesOn (signatures : List Signature) (before : List (Event ObjectCall Reply)) (line : Line) : List (Event ObjectCall Reply) → Type 0 where
+  event : {e : Event ObjectCall Reply} → IsNamedEvent signatures before line e → GoesOn signatures before line (before ++ e ∷ [])
+  applied : IsApplied process_numbers line → GoesOn signatures before line before
+
+-- behind a letter and the name of a call, the first line of a text leads to those events, and this stands behind it
+pub record TakesNamed (letter : Word) (signatures : List Signature) (before : List (Event ObjectCall Reply)) (i : CallId) (text : List ℕ)
+    (after : List (Event ObjectCall Reply)) (rest : List ℕ) : Type 0 where
+  pub line : Line
+  pub parts : map words (lines text) ≡ line ∷ map words (lines rest)
+  pub leads : (word : Word) → IsId process_numbers word i → GoesOn signatures before (letter ∷ word ∷ line) after
+
 -- a line leads from one to the other
 module _ (program : Program) (h : Heard) (line : Line) where
   -- a variable's opening, the next one's
@@ -118,9 +104,3 @@ module _ (program : Program) (h : Heard) (line : Line) where
 
   abbrev pub Leads : Heard → Type 0
   Leads next = LeadsAs (kind_of line) next
-
--- the number of at most nine digits that the only word says is found, if it says one
-abbrev pub FindsProcess : List Word → Option ℕ → Type 0
-FindsProcess ws found =
-    MatchOption found ((word : Word) (p : ℕ) → ws ≡ word ∷ [] → IsProcess word p → ⊥)
-    (λ p. (word : Word) × (ws ≡ word ∷ []) × IsProcess word p)

@@ -1,6 +1,6 @@
 -- Records as they are read: which lines of words are a record, and where lines stop being one. Words are separated as in
 -- scripts, and lines that are remarks are passed over; A lines and the lines behind the O line are read for their form alone.
-use Rattle.std.specs.Prelude.{◌≡◌, ℕ, ◌+◌, ◌-◌, ◌<◌, ◌≤◌, ◌^◌, List, [], ◌∷◌, ◌++◌, All, length, codes, slice_get, Option, Some, None}
+use Rattle.std.specs.Prelude.{◌≡◌, ℕ, ◌+◌, ◌-◌, ◌≤◌, List, [], ◌∷◌, ◌++◌, All, length, codes, slice_get, Option, Some, None}
 use Rattle.ob_interface.specs.declared.scalar.Scalar.{Scalar}
 use Rattle.ob_interface.specs.Call.{ObjectCall, Reply, Answers, Trapped}
 use Rattle.ob_interface.specs.Processes.{most_processes}
@@ -13,8 +13,9 @@ use Rattle.ob_interface.specs.Export.{Signature, value_types, var_types}
 use Rattle.ob_checked.specs.Exports.{signatures}
 use Rattle.ob_meaning.specs.ByPositionStore.{Activation}
 use Rattle.ob_typing.specs.Program.{Program, Variable}
+pub use Rattle.ob_text_values_reading.specs.CallNames.{AreIds, IsId, id, more, none}
 pub use Rattle.ob_text_values_reading.specs.Comments.{StandsAmong, line_number, said}
-pub use Rattle.ob_text_values_reading.specs.RecordTexts.{IsTitle, Line, record_lines}
+pub use Rattle.ob_text_values_reading.specs.RecordTexts.{IsTail, IsTitle, Line, record_lines, schedule, variable}
 use Rattle.ob_text_reading.specs.Openings.{AreOpenings}
 use Rattle.ob_text_reading.specs.declared.record_reading.RecordFault.{RecordFault}
 use Rattle.ob_text_reading.specs.declared.record_reading.RecordFault.TheVariants as Faults
@@ -38,11 +39,6 @@ pub data IsCount : Line → ℕ → Type 0 where
 pub data IsBudget : Line → ℕ → Type 0 where
   budget : {number : Word} {b : ℕ} → IsNumeral number b → b ≤ most_turns → IsBudget (codes "b" ∷ number ∷ []) b
 
--- a line behind the O line: its first byte is S or V
-pub data IsTail : Line → Type 0 where
-  schedule : {more : List ℕ} {ws : List Word} → IsTail ((83 ∷ more) ∷ ws)
-  variable : {more : List ℕ} {ws : List Word} → IsTail ((86 ∷ more) ∷ ws)
-
 -- the exports of the module
 module _ (signatures : List Signature) where
   -- the reply to a call of the export of a number: done and the values of its VAR parameters, or trap and 1 to 5
@@ -54,32 +50,23 @@ module _ (signatures : List Signature) where
 
 -- there are so many processes
 module _ (processes : ℕ) where
-  -- p.k: p below the number of processes, k below 2^64
-  pub data IsId : Word → CallId → Type 0 where
-    id : {first second : Word} {p k : ℕ} → IsNumeral first p → p < processes → IsNumeral second k → k < 2 ^ 64 →
-        IsId (first ++ 46 ∷ second) (record { process = p; number = k })
-
-  pub data AreIds : List Word → List CallId → Type 0 where
-    none : AreIds [] []
-    more : {word : Word} {ws : List Word} {id : CallId} {ids : List CallId} → IsId word id → AreIds ws ids → AreIds (word ∷ ws) (id ∷ ids)
-
   -- A ids
   pub data IsApplied : Line → Type 0 where
-    applied : {ws : List Word} {ids : List CallId} → AreIds ws ids → IsApplied (codes "A" ∷ ws)
+    applied : {ws : List Word} {ids : List CallId} → AreIds processes ws ids → IsApplied (codes "A" ∷ ws)
 
   -- O ids
   pub data IsOrder : Line → List CallId → Type 0 where
-    order : {ws : List Word} {ids : List CallId} → AreIds ws ids → IsOrder (codes "O" ∷ ws) ids
+    order : {ws : List Word} {ids : List CallId} → AreIds processes ws ids → IsOrder (codes "O" ∷ ws) ids
 
   -- the exports of the module
   module _ (signatures : List Signature) where
     -- a line of an event behind others: a call of an export begins, or a call that its process has begun ends
     pub data IsEvent (before : List (Event ObjectCall Reply)) : Line → Event ObjectCall Reply → Type 0 where
       begin : {word name : Word} {rest : List Word} {id : CallId} {n : ℕ} {signature : Signature} {arguments : List Scalar} →
-          IsId word id → export_named signatures name ≡ Some (n, signature) → AreValues (value_types signature.formals) rest arguments →
+          IsId processes word id → export_named signatures name ≡ Some (n, signature) → AreValues (value_types signature.formals) rest arguments →
           IsEvent before (codes "B" ∷ word ∷ name ∷ rest) (Begin id (record { export = n; arguments = arguments }))
       end : {word : Word} {rest : List Word} {id : CallId} {call : ObjectCall} {reply : Reply} →
-          IsId word id → slice_get (own_calls id.process before) (id.number - 1) ≡ Some call → IsReply signatures call.export rest reply →
+          IsId processes word id → slice_get (own_calls id.process before) (id.number - 1) ≡ Some call → IsReply signatures call.export rest reply →
           IsEvent before (codes "E" ∷ word ∷ rest) (End id reply)
 
     -- an event that its process's events allow there

@@ -1,6 +1,6 @@
 //! The calls of each process, as the events so far show them.
 
-ghost use Rattle.std.specs.Prelude.{◌≡◌, ◌↔◌, ◌<◌, ◌+◌, [], ◌∷◌, ◌++◌, length, OnOk, IfOk, IsTrue, MatchOption};
+ghost use Rattle.std.specs.Prelude.{◌≡◌, ◌↔◌, ◌<◌, ◌+◌, [], ◌∷◌, ◌++◌, length, OnErr, OnOk, IfOk, IsTrue, MatchOption};
 ghost use Rattle.ob_interface.specs.Call as Object;
 ghost use Rattle.ob_text_reading.specs.Seats.{EndsCall};
 ghost use Rattle.wf_history.specs.History.{Begin, End, IsHistory};
@@ -87,12 +87,14 @@ impl Calls {
         }
     }
 
-    /// The call begins.
+    /// The call begins. Nothing changes where memory runs out.
     #[inline(always)]
     pub fn begin(&mut self, id: CallId, call: KeptCall) -> Result<(), NoMemory>
         requires below { id.process < self.old.processes }
         requires next { IsHistory (self.old.events ++ Begin id (kept_call call) ∷ []) }
-        ensures { OnOk result ((self.new.events ≡ self.old.events ++ Begin id (kept_call call) ∷ []) × (self.new.processes ≡ self.old.processes)) }
+        ensures ok { OnOk result (self.new.events ≡ self.old.events ++ Begin id (kept_call call) ∷ []) }
+        ensures err { OnErr result (self.new.events ≡ self.old.events) }
+        ensures processes { self.new.processes ≡ self.old.processes }
     {
         let proc = call.proc;
         self.history.push_begin(id, call)?;
@@ -103,12 +105,14 @@ impl Calls {
         Ok(())
     }
 
-    /// The call ends.
+    /// The call ends. Nothing changes where memory runs out.
     #[inline(always)]
     pub fn end(&mut self, id: CallId, reply: KeptReply) -> Result<(), NoMemory>
         requires below { id.process < self.old.processes }
         requires next { IsHistory (self.old.events ++ End id (kept_reply reply) ∷ []) }
-        ensures { OnOk result ((self.new.events ≡ self.old.events ++ End id (kept_reply reply) ∷ []) × (self.new.processes ≡ self.old.processes)) }
+        ensures ok { OnOk result (self.new.events ≡ self.old.events ++ End id (kept_reply reply) ∷ []) }
+        ensures err { OnErr result (self.new.events ≡ self.old.events) }
+        ensures processes { self.new.processes ≡ self.old.processes }
     {
         self.history.push_end(id, reply)?;
         self.seats[id.process] = Seat {

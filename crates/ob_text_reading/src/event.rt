@@ -10,10 +10,10 @@ ghost use Rattle.ob_text_words.specs.Words.{words};
 
 use crate::line::{read_reply, values_in};
 use crate::names::NamedCalls;
-use crate::taking::take_id;
 use ob_interface::NoMemory;
 use ob_interface::call::Call;
 use ob_interface::export::Export;
+use ob_text_values_reading::taking::take_id;
 use ob_text_values_reading::words::next_word;
 use ob_text_words::exports::export_named;
 use std::alloc::Global;

@@ -85,6 +85,11 @@ fn read_lines(alloc: Global, checked: &Checked, text: &[u8]) -> Result<Reader, R
     let mut left = Some(text);
     let mut number = 0;
     while let Some(text) = left {
+        if let Some(behind) = reader.take_written(alloc, checked, text)? {
+            number += 1;
+            left = Some(behind);
+            continue;
+        }
         let (line, rest) = split_line(text);
         number += 1;
         match reader.take_line(alloc, checked, line, &mut list)? {

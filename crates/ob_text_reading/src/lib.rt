@@ -7,18 +7,12 @@ pub mod calls;
 mod event;
 pub mod head;
 pub mod history_reading;
-pub mod id;
-mod kind;
 pub mod laws;
 pub mod line;
 mod names;
-mod number;
 pub mod opening;
 mod reader;
 pub mod record_reading;
-pub mod splitting;
-pub mod taking;
-mod text_beginning;
 mod written;
 
 pub use history_reading::{ReadHistory, read_history};

@@ -4,20 +4,20 @@ ghost use Rattle.std.specs.Prelude.{◌≡◌, ◌∷◌, List, codes, map, opti
 ghost use Rattle.ob_interface.specs.View.{reply_of, signature_of};
 ghost use Rattle.ob_text_words.specs.Values.{AreValues, types_of};
 ghost use Rattle.ob_text_reading.specs.LineReading.{FindsEvent, FindsLine, IsAppliedRead, IsOrderRead};
-ghost use Rattle.ob_text_reading.specs.Numbers.{FindsTrap};
+ghost use Rattle.ob_text_reading.specs.Traps.{FindsTrap};
 ghost use Rattle.ob_text_reading.specs.RecordLines.{AreIds, IsReply};
 ghost use Rattle.ob_text_words.specs.Finding.{FindsAs};
 ghost use Rattle.ob_text_words.specs.Words.{words};
 ghost use Rattle.wf_history.specs.declared.event.CallId as Names;
 
 use crate::calls::Calls;
-use crate::id::{are_ids, read_ids};
-use crate::number::read_only_number;
-use crate::taking::take_id;
 use ob_interface::NoMemory;
 use ob_interface::call::{Call, Reply};
 use ob_interface::export::{Export, Formal};
 use ob_interface::scalar::Scalar;
+use ob_text_values_reading::id::{are_ids, read_ids};
+use ob_text_values_reading::number::read_only_number;
+use ob_text_values_reading::taking::take_id;
 use ob_text_values_reading::words::next_word;
 use ob_text_words::exports::export_named;
 use ob_text_words::parameters::read_values;

@@ -1,15 +1,22 @@
 //! The calls of each process, by the names that a text has for processes.
 
-ghost use Rattle.std.specs.Prelude.{◌≡◌, ◌↔◌, [], ◌∷◌, ◌++◌, ◌==◌, length, IfOk, IsTrue, MatchOption};
+ghost use Rattle.std.specs.Prelude.{◌≡◌, ◌↔◌, [], ◌∷◌, ◌++◌, ◌==◌, codes, length, map, IfOk, IsTrue, MatchOption};
 ghost use Rattle.std.specs.List.{position};
 ghost use Rattle.ob_interface.specs.Call as Object;
+ghost use Rattle.ob_interface.specs.View.{signature_of};
+ghost use Rattle.ob_text_reading.specs.LineReading.{TakesLine, TakesOrLeaves};
 ghost use Rattle.ob_text_reading.specs.Names.{AreApart, AreBelow, HaveBegun, HasNoPlace, IsPlaceOf, MayCome, MayEnd, events_of};
+ghost use Rattle.ob_text_reading.specs.Reading.{GoesOn, TakesNamed};
 ghost use Rattle.wf_history.specs.History.{Begin, End, IsHistory};
 ghost use Rattle.wf_history.specs.View.{kept_call, kept_reply};
 
 use crate::calls::Calls;
+use crate::event::PROCESS_NUMBERS;
+use crate::written::{take_begin, take_end};
 use indexmap::IndexSet;
 use ob_interface::NoMemory;
+use ob_interface::export::Export;
+use ob_text_values_reading::text_beginning::{behind_ids, front_of};
 use std::alloc::{AllocError, Global};
 use std::marker::Model;
 use wf_history::{CallId, History, KeptCall, KeptReply};
@@ -130,6 +137,73 @@ impl NamedCalls {
         let number = id.number;
         calls.end(CallId { process, number }, reply)?;
         Ok(NamedCalls { names, calls })
+    }
+
+    /// Takes up the line that a text begins with, where it is one of an event of a process that has begun a call, or of applied calls,
+    /// as runs write them, and gives the text behind it. `None` says nothing of the line, and nothing is taken up.
+    #[inline(always)]
+    pub(crate) fn take_written<'a>(
+        &mut self,
+        alloc: Global,
+        exports: &[Export],
+        text: &'a [u8],
+    ) -> Result<Option<&'a [u8]>, NoMemory>
+        ensures { IfOk result (TakesOrLeaves (events_of self.old) (events_of self.new)
+            (TakesLine (GoesOn (map signature_of exports.now) (events_of self.old)) text.now)) }
+    {
+        let Some((kind, id, behind)) = front_of(PROCESS_NUMBERS, text) else {
+            return Ok(None);
+        };
+        let Some((ender, rest)) = behind.split_first() else {
+            return Ok(None);
+        };
+        match (kind, *ender) {
+            (b'A', b'\n') => Ok(Some(rest)),
+            (b'A', b' ') => Ok(behind_ids(PROCESS_NUMBERS, rest)),
+            (b'B', b' ') => self.take_named_begin(alloc, exports, id, rest),
+            (b'E', b' ') => self.take_named_end(alloc, exports, id, rest),
+            _ => Ok(None),
+        }
+    }
+
+    /// The same of a call that begins; the text is what stands behind its name.
+    #[inline(always)]
+    fn take_named_begin<'a>(
+        &mut self,
+        alloc: Global,
+        exports: &[Export],
+        id: CallId,
+        text: &'a [u8],
+    ) -> Result<Option<&'a [u8]>, NoMemory>
+        ensures { IfOk result (TakesOrLeaves (events_of self.old) (events_of self.new)
+            (TakesNamed (codes "B") (map signature_of exports.now) (events_of self.old) id text.now)) }
+    {
+        let Some(process) = self.place_known(id.process) else {
+            return Ok(None);
+        };
+        let number = id.number;
+        let placed = CallId { process, number };
+        take_begin(alloc, exports, &mut self.calls, placed, text)
+    }
+
+    /// The same of a call that ends with values; the text is what stands behind its name.
+    #[inline(always)]
+    fn take_named_end<'a>(
+        &mut self,
+        alloc: Global,
+        exports: &[Export],
+        id: CallId,
+        text: &'a [u8],
+    ) -> Result<Option<&'a [u8]>, NoMemory>
+        ensures { IfOk result (TakesOrLeaves (events_of self.old) (events_of self.new)
+            (TakesNamed (codes "E") (map signature_of exports.now) (events_of self.old) id text.now)) }
+    {
+        let Some(process) = self.place_known(id.process) else {
+            return Ok(None);
+        };
+        let number = id.number;
+        let placed = CallId { process, number };
+        take_end(alloc, exports, &mut self.calls, placed, text)
     }
 
     /// The names of the processes, and their events by numbers.

@@ -5,28 +5,29 @@ ghost use Rattle.ob_checked.specs.CheckedModule.{program_in};
 ghost use Rattle.ob_checked.specs.View.{table_of, variable_of};
 ghost use Rattle.ob_store.specs.View.{variables_in};
 ghost use Rattle.ob_text_reading.specs.HistoryLines.{IsAnyCount};
+ghost use Rattle.ob_text_reading.specs.LineReading.{TakesLine, TakesOrLeaves};
 ghost use Rattle.ob_text_reading.specs.Names.{MayCome, events_of};
-ghost use Rattle.ob_text_reading.specs.Reading.{FindsProcess, Leads, LeadsAs, NamesCalls, at_stage, at_start, event_said, is_opened, place};
+ghost use Rattle.ob_text_reading.specs.Reading.{Leads, LeadsAs, NamesCalls, at_stage, at_start, event_said, is_opened, place};
 ghost use Rattle.ob_text_reading.specs.HistoryContents.{heard_of};
-ghost use Rattle.ob_text_reading.specs.declared.kind.LineKind.TheVariants as Kinds;
+ghost use Rattle.ob_text_values_reading.specs.declared.kind.LineKind.TheVariants as Kinds;
 ghost use Rattle.ob_text_words.specs.Finding.{FindsAs};
 ghost use Rattle.ob_text_words.specs.Words.{words};
 
 use crate::event::{PROCESS_NUMBERS, Said, read_event};
 use crate::head::read_budget;
-use crate::id::are_ids;
-use crate::kind::{LineKind, Stage, kind_of};
 use crate::names::NamedCalls;
 use crate::opening::{push_value, read_opening};
-use crate::splitting::is_tail_line;
 use ob_checked::checked::Checked;
 use ob_checked::program::Variable;
 use ob_checked::types::Types;
 use ob_interface::NoMemory;
 use ob_store::value::Value;
+use ob_text_values_reading::id::are_ids;
+use ob_text_values_reading::kind::{LineKind, Stage, kind_of};
+use ob_text_values_reading::number::only_process;
+use ob_text_values_reading::splitting::is_tail_line;
 use ob_text_values_reading::title::read_title;
 use ob_text_values_reading::words::next_word;
-use ob_text_words::numbers::read_process;
 use ob_text_words::words::words_of;
 use std::alloc::{AllocError, Global};
 
@@ -59,9 +60,31 @@ impl Reader {
         self.values.is_empty() || self.values.len() == checked.program().variables.len()
     }
 
-    /// Takes a line up; `None` where it may not stand there. Words that say values are put in place of those that the list has. It
-    /// stands in the loop over the lines, so that no line moves all that is known.
+    /// Takes up the line that a text begins with, where it is one of an event or of applied calls as runs write them, and gives the text
+    /// behind it. `None` says nothing of the line, and nothing is taken up.
     #[inline(always)]
+    pub(crate) fn take_written<'a>(
+        &mut self,
+        alloc: Global,
+        checked: &Checked,
+        text: &'a [u8],
+    ) -> Result<Option<&'a [u8]>, NoMemory>
+        ensures { IfOk result (TakesOrLeaves (heard_of self.old) (heard_of self.new)
+            (TakesLine (Leads (program_in checked.now) (heard_of self.old)) text.now)) }
+    {
+        if !self.may_go_on(checked) {
+            return Ok(None);
+        }
+        let Some(rest) = self.calls.take_written(alloc, checked.exports(), text)? else {
+            return Ok(None);
+        };
+        self.stage = Stage::Events;
+        Ok(Some(rest))
+    }
+
+    /// Takes a line up; `None` where it may not stand there. Words that say values are put in place of those that the list has. It
+    /// stands apart, since most lines are read as runs write them.
+    #[inline(never)]
     pub(crate) fn take_line<'a>(
         self,
         alloc: Global,
@@ -255,16 +278,6 @@ fn is_count(words: &[&[u8]]) -> bool
         return false;
     }
     only_process(rest).is_some()
-}
-
-/// The number of at most nine digits that the only word says.
-fn only_process(words: &[&[u8]]) -> Option<usize>
-    ensures { FindsProcess (map (λ w. w.now) words.now) result }
-{
-    let [word] = words else {
-        return None;
-    };
-    read_process(word)
 }
 
 /// Whether a line is this letter and names of calls.

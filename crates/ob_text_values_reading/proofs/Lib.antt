@@ -8,3 +8,9 @@ pub mod Indexing
 pub mod VariableLines
 pub mod Numerals
 pub mod ReadBack
+pub mod Fronts
+pub mod Ids
+pub mod IdsTaken
+pub mod Tails
+pub mod WrittenValues
+pub mod WrittenWords

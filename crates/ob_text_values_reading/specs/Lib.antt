@@ -8,3 +8,7 @@ pub mod ReadValues
 pub mod Indexed
 pub mod Turns
 pub mod Printed
+pub mod CallNames
+pub mod LineBeginnings
+pub mod LineKinds
+pub mod Numbers

@@ -1,5 +1,5 @@
--- The lines of a record's text, and its first line.
-use Rattle.std.specs.Prelude.{◌≡◌, ℕ, List, [], ◌∷◌, map, codes, Option, Some, None}
+-- The lines of a record's text, its first line, and those behind the order.
+use Rattle.std.specs.Prelude.{◌≡◌, ℕ, List, [], ◌∷◌, ◌++◌, All, length, map, codes, Option, Some, None}
 use Rattle.std.specs.Borrow.{Bor}
 use Rattle.std.specs.Io.BufRead.{strip_last}
 use Rattle.ob_text_words.specs.Words.{Word, lines, words}
@@ -19,3 +19,18 @@ lines_behind (Some text) = map words (lines text.now)
 -- obl0 record, and the version
 abbrev pub IsTitle : Word → Line → Type 0
 IsTitle version line = line ≡ codes "obl0" ∷ codes "record" ∷ version ∷ []
+
+-- a line behind the O line: its first byte is S or V
+pub data IsTail : Line → Type 0 where
+  schedule : {more : List ℕ} {ws : List Word} → IsTail ((83 ∷ more) ∷ ws)
+  variable : {more : List ℕ} {ws : List Word} → IsTail ((86 ∷ more) ∷ ws)
+
+-- the line of this number, from 0, has neither S nor V for its first byte, and those before it have
+pub record IsFirstOther (ls : List Line) (number : ℕ) : Type 0 where
+  pub before : List Line
+  pub line : Line
+  pub rest : List Line
+  pub parts : ls ≡ before ++ line ∷ rest
+  pub counted : number ≡ length before
+  pub tails : All IsTail before
+  pub other : ¬ IsTail line

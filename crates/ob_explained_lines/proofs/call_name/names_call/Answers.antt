@@ -1,6 +1,6 @@
 use Rattle.std.proofs.Common.{◌∙◌, inl, inr, subst, sym}
 use Rattle.std.proofs.lemmas.Bool.{false≢true}
-use Rattle.ob_text_reading.proofs.Ids.{one_id}
+use Rattle.ob_text_values_reading.proofs.Ids.{one_id}
 use Rattle.wf_history.specs.declared.event.CallId.{CallId}
 use Rattle.ob_explained_lines.specs.CallNames.{Names}
 use Rattle.ob_explained_lines.proofs.SameNames.{is_same_id}

@@ -1,5 +1,5 @@
 use Rattle.std.proofs.Common.{◌≡◌, ◌<◌, arith, subst}
-use Rattle.ob_text_reading.proofs.Ids.{one_id}
+use Rattle.ob_text_values_reading.proofs.Ids.{one_id}
 use Rattle.wf_history.specs.declared.event.CallId.{CallId}
 use Rattle.ob_explained_lines.proofs.call_place.call_within.Goals as goal
 

@@ -66,7 +66,7 @@ loop-left-preserved-in-Some-2 c =
 pub loop-left-preserved-in_ok-begin-in-Begin : goal.loop-left-preserved-in_ok-begin-in-Begin
 loop-left-preserved-in_ok-begin-in-Begin c =
     let read = read_same _ _ _ _ _ _ _ _ c.loop-left.invariant.read (rw c.in_default-2.is at c.in_ok-behind.ensures.taken) in
-    rw (c.in_ok-begin-in-Begin.ensures.0, c.in_ok-begin-in-Begin.ensures.1)
+    rw (c.in_ok-begin-in-Begin.ensures.ok, c.in_ok-begin-in-Begin.ensures.processes)
     (record {
       read = event_more _ _ _ _ _ _ _ _ _ read (ap lines_behind c.in-Some.is ∙ c.split_line.ensures)
           (rw (c.in_ok-behind.ensures.processes, c.loop-left.invariant.processes, c.in-Some-3.is, c.in-Begin.is) at c.in_ok-said.ensures);
@@ -76,7 +76,7 @@ loop-left-preserved-in_ok-begin-in-Begin c =
 pub loop-left-preserved-in_ok-end-in-End : goal.loop-left-preserved-in_ok-end-in-End
 loop-left-preserved-in_ok-end-in-End c =
     let read = read_same _ _ _ _ _ _ _ _ c.loop-left.invariant.read (rw c.in_default-2.is at c.in_ok-behind.ensures.taken) in
-    rw (c.in_ok-end-in-End.ensures.0, c.in_ok-end-in-End.ensures.1)
+    rw (c.in_ok-end-in-End.ensures.ok, c.in_ok-end-in-End.ensures.processes)
     (record {
       read = event_more _ _ _ _ _ _ _ _ _ read (ap lines_behind c.in-Some.is ∙ c.split_line.ensures)
           (rw (c.in_ok-behind.ensures.processes, c.loop-left.invariant.processes, c.in-Some-3.is, c.in-End.is) at c.in_ok-said.ensures);

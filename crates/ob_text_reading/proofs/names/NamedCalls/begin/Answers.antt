@@ -20,14 +20,14 @@ invariant_of-result c =
     let may = rw (← c.self.view_is) at c.requires in
     let g = grown_set _ _ c.args.id.process c.in_ok-process.process c.in_ok-process.ensures.keys c.in_ok-process.ensures.index in
     let next = begins_so _ c.self.invariant.0 c.args.id.process c.in_ok-process.process c.args.id.number (begins_at _ c.self.invariant.0 c.args.id _ may _ _ g) _ may.turn in
-    rw c.in_ok-begin.ensures.0 (
+    rw c.in_ok-begin.ensures.ok (
       named_more _ c.self.invariant.0 c.args.id.process c.in_ok-process.process c.args.id.number _ g (few_names _ c.self.invariant.0 c.args.id _ may _ _ g) _ next,
-      c.in_ok-begin.ensures.1 ∙ c.self.invariant.1,
+      c.in_ok-begin.ensures.processes ∙ c.self.invariant.1,
     )
 
 pub returns : goal.returns
 returns c =
     let may = rw (← c.self.view_is) at c.requires in
     let g = grown_set _ _ c.args.id.process c.in_ok-process.process c.in_ok-process.ensures.keys c.in_ok-process.ensures.index in
-    rw (c.in_ok-begin.ensures.0, ← c.self.view_is)
+    rw (c.in_ok-begin.ensures.ok, ← c.self.view_is)
     (events_more _ c.self.invariant.0 c.args.id.process c.in_ok-process.process c.args.id.number _ g (few_names _ c.self.invariant.0 c.args.id _ may _ _ g) _)

@@ -18,10 +18,10 @@ pub invariant_of-result : goal.invariant_of-result
 invariant_of-result c =
     let at = known_place _ _ _ (rw (← c.self.view_is) at (sym c.place_known.ensures ∙ c.in-Some.is)) in
     let next = ends_numbered _ c.self.invariant.0 c.args.id.process c.in-Some.process c.args.id.number at _ (rw (← c.self.view_is) at c.requires) in
-    rw c.in_ok-end.ensures.0
-    (named_end _ c.self.invariant.0 c.args.id.process c.in-Some.process c.args.id.number at _ next, c.in_ok-end.ensures.1 ∙ c.self.invariant.1)
+    rw c.in_ok-end.ensures.ok
+    (named_end _ c.self.invariant.0 c.args.id.process c.in-Some.process c.args.id.number at _ next, c.in_ok-end.ensures.processes ∙ c.self.invariant.1)
 
 pub returns : goal.returns
 returns c =
     let at = known_place _ _ _ (rw (← c.self.view_is) at (sym c.place_known.ensures ∙ c.in-Some.is)) in
-    rw (c.in_ok-end.ensures.0, ← c.self.view_is) (events_end _ c.self.invariant.0 c.args.id.process c.in-Some.process c.args.id.number at _)
+    rw (c.in_ok-end.ensures.ok, ← c.self.view_is) (events_end _ c.self.invariant.0 c.args.id.process c.in-Some.process c.args.id.number at _)
