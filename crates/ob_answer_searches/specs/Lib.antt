@@ -6,3 +6,4 @@ pub mod OutcomesAnswers
 pub mod OutcomesFaultLines
 pub mod WholeLines
 pub mod WholesAnswers
+pub mod RowTexts

@@ -11,4 +11,5 @@ pub mod lines;
 pub mod order_answers;
 mod orders;
 pub mod outcomes_answers;
+mod rows;
 pub mod whole_answers;

@@ -23,4 +23,4 @@ pub use outcomes::outcome_lines;
 pub use parts::{push_ids, push_order};
 pub use scripted::{Scripted, scripted_text};
 pub use stories::story;
-pub use wholes::{WholeOutcome, wholes_text};
+pub use wholes::{WholeOutcomes, wholes_text};

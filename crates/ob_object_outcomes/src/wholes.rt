@@ -9,12 +9,14 @@ ghost use Rattle.ob_object_outcomes.specs.Outcomes.{AlwaysHere, HoldsAlways};
 ghost use Rattle.ob_object_outcomes.specs.Questions.{Holds};
 ghost use Rattle.ob_object_outcomes.specs.Scripted.{scripted_in};
 ghost use Rattle.ob_object_outcomes.specs.OutcomesView.{always_in};
-ghost use Rattle.ob_object_outcomes.specs.WholesView.{outcome_in, told_in};
+ghost use Rattle.ob_object_outcomes.specs.WholesView.{outcomes_in, told_in};
 ghost use Rattle.ob_object_outcomes.specs.Wholes.{AreWholesOf, AreWholesPlaced, IsWholesFault, IsWholesFaultHere, IsWholesTrouble};
+ghost use Rattle.ob_object_search.specs.Kept.{kept_in};
 ghost use Rattle.ob_store.specs.View.{state_of};
 ghost use Rattle.wf_outcomes.specs.Explored.{calls_in};
 ghost use Rattle.wf_outcomes.specs.Outcomes.{AlwaysGood};
 ghost use Rattle.wf_outcomes.specs.OutcomeOrders.{IsItself};
+ghost use Rattle.wf_whole_outcomes.specs.View.{seen_in};
 ghost use Rattle.wf_whole_outcomes.specs.Wholes.{AreWholes};
 
 use crate::{Bounds, OutcomesFault, Scripted, must_hold, question_asked, scripted_text};
@@ -24,17 +26,11 @@ use ob_object_compile::Asked;
 use ob_object_search::{KeptState, ModuleObject};
 use ob_store::state::State;
 use std::alloc::{AllocError, Global};
-use wf_history::{CallId, KeptReply};
 use wf_outcomes::{Explored, explore};
-use wf_whole_outcomes::{ToldWhole, wholes_told};
+use wf_whole_outcomes::{ToldWholes, wholes_told};
 
-/// A whole outcome: all replies, of each process in order, the last state, and the first order of all calls that gives them.
-#[derive(Drop)]
-pub struct WholeOutcome {
-    pub replies: Vec<Vec<KeptReply>>,
-    pub state: State,
-    pub order: Vec<CallId>,
-}
+/// Whole outcomes, with states of their own.
+pub type WholeOutcomes = ToldWholes<State>;
 
 /// All whole outcomes of the calls of a script on the object that is asked for: all replies and the last state together, over all
 /// merges of what the processes call; each once, with the first order that gives it, and by these orders. Where the object is to
@@ -45,8 +41,8 @@ pub fn wholes_text(
     asked: Asked<'_>,
     script: &[u8],
     bounds: &Bounds<'_>,
-) -> Result<(Scripted, Vec<WholeOutcome>), OutcomesFault>
-    ensures wholes { IfOk result (λ r. AreWholesOf (asked_of asked.entry) script.now (scripted_in r.0) (map outcome_in r.1.items)) }
+) -> Result<(Scripted, WholeOutcomes), OutcomesFault>
+    ensures wholes { IfOk result (λ r. AreWholesOf (asked_of asked.entry) script.now (scripted_in r.0) (outcomes_in r.1)) }
     ensures always { IfOk result (λ r. IfSome (always_in bounds.now) (HoldsAlways (asked_of asked.entry) script.now (scripted_in r.0))) }
     ensures fault { IfErr result (IsWholesFault (asked_of asked.entry) script.now (always_in bounds.now) bounds.now.most) }
     ensures at_once { TellsAtOnce (asked_of asked.entry) (λ e. result ≡ Err (OutcomesFault.Texts (SeqTextFault.Compile e))) }
@@ -61,8 +57,8 @@ fn wholes_of(
     alloc: Global,
     scripted: &Scripted,
     bounds: &Bounds<'_>,
-) -> Result<Vec<WholeOutcome>, OutcomesFault>
-    ensures wholes { IfOk result (λ wholes. AreWholesPlaced (scripted_in scripted.now) (map outcome_in wholes.items)) }
+) -> Result<WholeOutcomes, OutcomesFault>
+    ensures wholes { IfOk result (λ wholes. AreWholesPlaced (scripted_in scripted.now) (outcomes_in wholes)) }
     ensures always { IfOk result (λ _. IfSome (always_in bounds.now) (AlwaysHere (scripted_in scripted.now))) }
     ensures fault { IfErr result (IsWholesFaultHere (scripted_in scripted.now) (always_in bounds.now) bounds.now.most) }
 {
@@ -88,9 +84,9 @@ fn wholes_where_held(
     explored: &Explored<'_, ModuleObject<'_>>,
     question: Option<usize>,
     bounds: &Bounds<'_>,
-) -> Result<Vec<WholeOutcome>, OutcomesFault>
+) -> Result<WholeOutcomes, OutcomesFault>
     ensures wholes { IfOk result (λ wholes. ∥ AreWholes IsItself (CallEnds (program_in explored.now.object.now.checked.now) explored.now.object.now.budget)
-        (calls_in explored.now.scripts.now) (state_of explored.now.object.now.opening.now) (map outcome_in wholes.items) ∥₁) }
+        (calls_in explored.now.scripts.now) (state_of explored.now.object.now.opening.now) (outcomes_in wholes) ∥₁) }
     ensures always { IfOk result (λ _. IfSome question (λ number. ∥ AlwaysGood (CallEnds (program_in explored.now.object.now.checked.now) explored.now.object.now.budget)
         (calls_in explored.now.scripts.now) (state_of explored.now.object.now.opening.now)
         (Holds (CallEnds (program_in explored.now.object.now.checked.now) explored.now.object.now.budget) number) ∥₁)) }
@@ -103,32 +99,31 @@ fn wholes_where_held(
 }
 
 /// The whole outcomes, with states of their own.
-fn outcomes_of(
-    alloc: Global,
-    told: Vec<ToldWhole<'_, KeptState>>,
-) -> Result<Vec<WholeOutcome>, NoMemory>
-    ensures { IfOk result (λ wholes. map outcome_in wholes.items ≡ map told_in told.entry.items) }
+fn outcomes_of(alloc: Global, told: ToldWholes<&KeptState>) -> Result<WholeOutcomes, NoMemory>
+    ensures { IfOk result (λ wholes. outcomes_in wholes ≡ told_in told.entry) }
 {
-    let mut wholes = Vec::new(alloc);
-    for whole in told {
-        wholes.push(outcome_of(alloc, whole)?)?;
-    }
-    Ok(wholes)
+    let ToldWholes {
+        processes,
+        replies,
+        front,
+        states,
+    } = told;
+    let states = own_states(alloc, &states)?;
+    Ok(ToldWholes {
+        processes,
+        replies,
+        front,
+        states,
+    })
 }
 
-/// A whole outcome, with a state of its own.
-fn outcome_of(alloc: Global, told: ToldWhole<'_, KeptState>) -> Result<WholeOutcome, AllocError>
-    ensures { IfOk result (λ whole. outcome_in whole ≡ told_in told.entry) }
+/// The states, copied.
+fn own_states(alloc: Global, states: &[&KeptState]) -> Result<Vec<State>, AllocError>
+    ensures { IfOk result (λ own. map state_of own.items ≡ map (seen_in kept_in) states.now) }
 {
-    let ToldWhole {
-        replies,
-        state,
-        order,
-    } = told;
-    let state = state.state(alloc)?;
-    Ok(WholeOutcome {
-        replies,
-        state,
-        order,
-    })
+    let mut own = Vec::with_capacity(alloc, states.len())?;
+    for state in states {
+        own.push(state.state(alloc)?)?;
+    }
+    Ok(own)
 }

@@ -1,14 +1,15 @@
 //! All whole outcomes of the merges of scripts: all replies and the last state together, each once, with the first order that gives it.
 //!
 //! What an exploration has found is a graph. `search_all` goes over it layer by layer, and keeps of each way only where it leads and what was
-//! said on it; `leaves_told` reads the last layer. One may rely on the clauses of `search_all`, `way_back` and `wholes_told`.
+//! said on it. The last layer tells the outcomes: the lists of replies of its nodes, and the ways there. One may rely on the clauses of
+//! `search_all`, `way_back`, `wholes_told` and `ToldWholes`.
 #![tactic(auto)]
 
 pub mod edges;
 mod graph;
 pub mod growing;
 pub mod keys;
-mod leaves;
+pub mod leaves;
 pub mod nodes;
 pub mod search;
 pub mod ways;
@@ -16,7 +17,8 @@ pub mod wholes;
 
 pub use edges::Edge;
 pub use growing::{Came, Ground};
+pub use leaves::OrderRoom;
 pub use nodes::{Layer, Link, Lists, Node, Told};
 pub use search::{Front, LayersFault, search_all};
 pub use ways::way_back;
-pub use wholes::{ToldWhole, wholes_told};
+pub use wholes::{ToldWholes, wholes_told};

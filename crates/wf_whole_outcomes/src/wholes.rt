@@ -8,25 +8,27 @@ ghost use Rattle.wf_outcomes.specs.Explored.{calls_in};
 ghost use Rattle.wf_outcomes.specs.Merges.{total};
 ghost use Rattle.wf_outcomes.specs.OutcomeOrders.{IsItself};
 ghost use Rattle.wf_whole_outcomes.specs.Tellings.{HasMoreTold};
-ghost use Rattle.wf_whole_outcomes.specs.View.{whole_in};
+ghost use Rattle.wf_whole_outcomes.specs.View.{seen_in, wholes_in};
 ghost use Rattle.wf_whole_outcomes.specs.Wholes.{AreWholes};
 
 use crate::graph::graph_of;
-use crate::leaves::leaves_told;
+use crate::leaves::states_told;
 use crate::{Front, Ground, LayersFault, search_all};
 use ob_interface::NoMemory;
 use std::alloc::Global;
 use std::hash::RandomState;
-use wf_history::{CallId, KeptCall, KeptReply};
+use wf_history::{KeptCall, KeptReply};
 use wf_order::Object;
 use wf_outcomes::{ExploreFault, Explored};
 
-/// A whole outcome: all replies, of each process in order, the last state, and the first order that gives them.
+/// Whole outcomes, as the last layer of a search has them: each node is one, with the lists of the replies to its processes, and the way
+/// there. Beside each stands its state.
 #[derive(Drop)]
-pub struct ToldWhole<'e, S> {
-    pub replies: Vec<Vec<KeptReply>>,
-    pub state: &'e S,
-    pub order: Vec<CallId>,
+pub struct ToldWholes<S> {
+    pub processes: usize,
+    pub replies: Vec<KeptReply>,
+    pub front: Front,
+    pub states: Vec<S>,
 }
 
 /// How many calls there are in all.
@@ -61,9 +63,9 @@ pub fn wholes_told<'e, O: Object>(
     explored: &'e Explored<'_, O>,
     most: usize,
     keys: RandomState,
-) -> Result<Vec<ToldWhole<'e, O::State>>, ExploreFault>
+) -> Result<ToldWholes<&'e O::State>, ExploreFault>
     ensures wholes { IfOk result (λ told. ∥ AreWholes IsItself (O.effect explored.now.object.now) (calls_in explored.now.scripts.now) (O.opening explored.now.object.now)
-        (map (whole_in O.meaning) told.items) ∥₁) }
+        (wholes_in (seen_in O.meaning) told) ∥₁) }
     // It gives up only where more can be told.
     ensures most { IsErrOf result ExploreFault.TooMany → ∥ HasMoreTold (O.effect explored.now.object.now) (calls_in explored.now.scripts.now)
         (O.opening explored.now.object.now) most ∥₁ }
@@ -77,5 +79,11 @@ pub fn wholes_told<'e, O: Object>(
         keys,
     };
     let front = last_front(&ground, calls, most)?;
-    Ok(leaves_told(alloc, explored, &graph, &front)?)
+    let states = states_told(alloc, explored, &front)?;
+    Ok(ToldWholes {
+        processes: explored.scripts.len(),
+        replies: graph.replies,
+        front,
+        states,
+    })
 }

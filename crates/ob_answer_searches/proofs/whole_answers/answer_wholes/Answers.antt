@@ -1,4 +1,4 @@
-use Rattle.std.proofs.Common.{◌∙◌, List, ap, map, string_bytes}
+use Rattle.std.proofs.Common.{◌∙◌, ap, string_bytes}
 use Rattle.ob_answer_explained.proofs.AtOnce.{holds_of_whole}
 use Rattle.ob_answer_explained.specs.CommandTexts.{of_text}
 use Rattle.ob_answer_files.specs.Printed.{said}
@@ -9,8 +9,7 @@ use Rattle.ob_object_compile.specs.View.{asked_of}
 use Rattle.ob_object_outcomes.specs.Wholes.{HasTooManyTold, IsWholesFault}
 use Rattle.ob_object_outcomes.specs.Scripted.{scripted_in}
 use Rattle.ob_object_outcomes.specs.OutcomesView.{always_in}
-use Rattle.ob_object_outcomes.specs.WholesView.{outcome_in}
-use Rattle.ob_object_outcomes.specs.declared.wholes.WholeOutcome.{WholeOutcome}
+use Rattle.ob_object_outcomes.specs.WholesView.{outcomes_in}
 use Rattle.ob_answer_searches.proofs.whole_answers.answer_wholes.Goals as goal
 
 pub returns-in_ok-lines-in-Ok : goal.returns-in_ok-lines-in-Ok
@@ -21,12 +20,10 @@ returns-in_ok-lines-in-Ok c whole is =
     (holds_of_whole of_compiling a (λ t. SaysWholes (always_in b) b.most (of_text a t) c.args.script.now (string_bytes c.in_ok-lines-in-Ok.lines)) _ whole is
     c.in-Ok.ensures.at_once (record {
       scripted = scripted_in c.in-Ok.scripted;
-      wholes = map outcome_in c.in-Ok.wholes.items;
+      wholes = outcomes_in c.in-Ok.wholes;
       are = c.in-Ok.ensures.wholes;
       holds = c.in-Ok.ensures.always;
-      prints =
-          c.in_ok-lines-in-Ok.ensures ∙ ap (λ p. whole_lines p.variables (map outcome_in c.deref.result.now)) c.checked.ensures
-          ∙ ap (λ (l : List WholeOutcome). whole_lines (scripted_in c.in-Ok.scripted).object.program.variables (map outcome_in l)) c.deref.ensures.value;
+      prints = c.in_ok-lines-in-Ok.ensures ∙ ap (λ p. whole_lines p.variables (outcomes_in c.in-Ok.wholes)) c.checked.ensures;
     }))
     c.printed.ensures
 

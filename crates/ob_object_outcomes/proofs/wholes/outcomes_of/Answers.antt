@@ -1,13 +1,14 @@
--- One outcome more.
-use Rattle.std.proofs.Common.{◌≡◌, ◌∙◌, ◌++◌, ◌∷◌, [], List, ap, map, sym}
-use Rattle.std.proofs.lemmas.List.{map-append}
-use Rattle.ob_object_outcomes.specs.WholesView.{outcome_in, told_in}
+-- With equal states.
+use Rattle.std.proofs.Common.{◌∙◌, ap, List, map}
+use Rattle.std.specs.Borrow.{Bor}
+use Rattle.ob_object_search.specs.Kept.{kept_in}
+use Rattle.ob_object_search.specs.declared.kept.KeptState.{KeptState}
+use Rattle.wf_history.specs.View.{kept_reply}
+use Rattle.wf_whole_outcomes.specs.View.{seen_in, wholes_from}
 use Rattle.ob_object_outcomes.proofs.wholes.outcomes_of.Goals as goal
 
-one_more : {A B C : Type 0} (f : A → C) (g : B → C) (xs made : List A) (ys : List B) (x : A) (y : B) → made ≡ xs ++ x ∷ [] → map f xs ≡ map g ys → f x ≡ g y → map f made ≡ map g (ys ++ y ∷ [])
-one_more {A} {B} {C} f g xs made ys x y is so more =
-    ap (map f) is ∙ map-append f xs (x ∷ []) ∙ ap (λ (l : List C). l ++ f x ∷ []) so ∙ ap (λ (z : C). map g ys ++ z ∷ []) more ∙ sym (map-append g ys (y ∷ []))
-
-pub loop-whole-preserved : goal.loop-whole-preserved
-loop-whole-preserved c =
-    one_more outcome_in told_in c.loop-whole.wholes.items c.push.new.self.items c.loop-whole.yielded c.in_ok-outcome_of.field-0 c.in-Some.whole c.in_ok-push.ensures.items c.loop-whole.invariant c.in_ok-outcome_of.ensures
+pub returns : goal.returns
+returns c =
+    let told = c.args.told in
+    ap (wholes_from (map kept_reply told.replies.items) told.processes told.front 0)
+    (c.in_ok-states.ensures ∙ ap (λ (states : List (Bor KeptState)). map (seen_in kept_in) states) c.deref.ensures.value)

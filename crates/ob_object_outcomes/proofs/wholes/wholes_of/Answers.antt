@@ -1,5 +1,5 @@
 -- What is found of the object that an exploration takes, as what is said of the object with scripts.
-use Rattle.std.proofs.Common.{◌∙◌, ap, map, Err}
+use Rattle.std.proofs.Common.{◌∙◌, ap, Err}
 use Rattle.std.proofs.lemmas.Result.{err_from_is_err_and, IfErr-weaker, IfOk-weaker}
 use Rattle.ob_checked.specs.CheckedModule.{program_in}
 use Rattle.ob_object_outcomes.proofs.OutcomesAsked.{always_here}
@@ -7,7 +7,7 @@ use Rattle.ob_object_outcomes.specs.Scripted.{scripted_in}
 use Rattle.ob_object_outcomes.specs.OutcomesView.{always_in}
 use Rattle.ob_object_search.specs.declared.instance.ModuleObject.{ModuleObject}
 use Rattle.ob_object_outcomes.proofs.WholesAsked.{exploring_told, none_asked, trouble_here, wholes_placed}
-use Rattle.ob_object_outcomes.specs.WholesView.{outcome_in}
+use Rattle.ob_object_outcomes.specs.WholesView.{outcomes_in}
 use Rattle.ob_store.specs.View.{state_of}
 use Rattle.wf_outcomes.specs.Explored.{calls_in}
 use Rattle.ob_object_outcomes.proofs.wholes.wholes_of.Goals as goal
@@ -37,7 +37,7 @@ returns-clause-wholes c =
     (λ w. wholes_placed s (program_in e.object.now.checked.now) e.object.now.budget (calls_in e.scripts.now) (state_of e.object.now.opening.now)
     (ap (λ (m : ModuleObject). program_in m.checked.now) same ∙ is.program) (ap (λ (m : ModuleObject). m.budget) same ∙ is.budget) (ap calls_in c.in_ok-explored.ensures.scripts ∙ c.scripts.ensures)
     (ap (λ (m : ModuleObject). state_of m.opening.now) same ∙ is.opening)
-    (map outcome_in w.items))
+    (outcomes_in w))
     c.wholes_where_held-found.ensures.wholes
 
 pub returns-clause-always : goal.returns-clause-always

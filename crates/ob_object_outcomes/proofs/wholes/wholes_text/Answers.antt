@@ -1,12 +1,11 @@
 -- By what is read, and what is found of it.
-use Rattle.std.proofs.Common.{map}
 use Rattle.std.proofs.lemmas.Result.{err_from_is_err_and}
 use Rattle.ob_object_compile.specs.View.{asked_of}
 use Rattle.ob_object_outcomes.proofs.OutcomesNamed.{always_all}
 use Rattle.ob_object_outcomes.specs.Scripted.{scripted_in}
 use Rattle.ob_object_outcomes.specs.OutcomesView.{always_in}
 use Rattle.ob_object_outcomes.proofs.WholesNamed.{wholes_are, wholes_fault_is, wholes_texts_told}
-use Rattle.ob_object_outcomes.specs.WholesView.{outcome_in}
+use Rattle.ob_object_outcomes.specs.WholesView.{outcomes_in}
 use Rattle.ob_object_outcomes.proofs.wholes.wholes_text.Goals as goal
 
 pub returns-in_err-scripted-clause-fault : goal.returns-in_err-scripted-clause-fault
@@ -25,7 +24,7 @@ returns-in_err-found-clause-fault c =
 pub returns-clause-wholes : goal.returns-clause-wholes
 returns-clause-wholes c =
     wholes_are (asked_of c.args.asked) c.args.script.now (scripted_in c.in_ok-scripted.scripted) c.in_ok-scripted.ensures.scripted c.in_ok-scripted.ensures.fitting
-    (map outcome_in c.in_ok-found.found.items) c.in_ok-found.ensures.wholes
+    (outcomes_in c.in_ok-found.found) c.in_ok-found.ensures.wholes
 
 pub returns-clause-always : goal.returns-clause-always
 returns-clause-always c =
