@@ -5,7 +5,8 @@ use Rattle.ob_answer.specs.Answers.{IsAnswer, IsAnswerTo, IsObeyed, IsServeObeye
 use Rattle.ob_answer_files.specs.Printed.{IsRefused}
 use Rattle.ob_answer_files.specs.declared.answered.Answer.{Answer}
 use Rattle.ob_answer_files.specs.declared.files.FileFault.{FileFault}
-use Rattle.ob_command.specs.CommandLine.{Request, Text, Unclear, extra_of_help, request}
+use Rattle.ob_command.specs.CommandLine.{Request, Text, Unclear, request}
+use Rattle.ob_command_line.specs.HelpWords.{extra_of_help}
 use Rattle.ob_command.specs.Commands.{IsMistakeBeside, IsMistakeOf, IsReading, IsTextBeside, calls_request_of}
 use Rattle.ob_command.specs.declared.command.CallsCommand.{CallsCommand}
 use Rattle.ob_command.specs.declared.command.Command.{Command}

@@ -2,9 +2,8 @@
 
 use ob_evidence::names::leads_to_statement;
 use ob_evidence::site::{Site, is_kind};
-use ob_explain_names::actuals::ends_call;
-use ob_explain_names::declarations::in_record;
-use ob_explain_names::open::open_construct;
+use ob_explain_tokens::actuals::ends_call;
+use ob_explain_tokens::open::{is_in_record, open_construct};
 use ob_scan::{Kind, Token};
 
 /// Whether a procedure of this name is declared among these tokens.
@@ -23,7 +22,7 @@ pub(crate) fn is_procedure(site: &Site<'_, '_>, tokens: &[Token], word: &[u8]) -
 pub(crate) fn is_field(site: &Site<'_, '_>, word: &[u8]) -> bool {
     let mut is_listed = false;
     for (count, token) in site.before.iter().enumerate() {
-        if is_listed && site.word_of(Some(*token)) == word && is_in_record(site.before, count) {
+        if is_listed && site.word_of(Some(*token)) == word && is_field_place(site.before, count) {
             return true;
         }
         is_listed = matches!(token.kind, Kind::Colon | Kind::Comma);
@@ -32,9 +31,9 @@ pub(crate) fn is_field(site: &Site<'_, '_>, word: &[u8]) -> bool {
 }
 
 /// Whether the token before which so many of these stand, the last one first, stands in a record.
-fn is_in_record(before: &[Token], count: usize) -> bool {
+fn is_field_place(before: &[Token], count: usize) -> bool {
     let (_, rest) = before.split_at(count.min(before.len()));
-    in_record(rest)
+    is_in_record(rest)
 }
 
 /// Whether a `:` or a `,` stands behind this name.

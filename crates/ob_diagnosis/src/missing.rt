@@ -2,9 +2,9 @@
 
 use crate::calls::{is_assigned, is_procedure, next_behind};
 use crate::further::is_closed_behind;
-use ob_evidence::expected::is_expected;
 use ob_evidence::site::{Site, is_kind};
-use ob_explain_names::open::{is_unit, open_construct};
+use ob_explain_names::expected::is_expected;
+use ob_explain_tokens::open::{is_unit, open_construct};
 use ob_messages::kinds::sample;
 use ob_messages::place::halves;
 use ob_messages::table::Fact;

@@ -17,10 +17,9 @@ use ob_evidence::numbers::{first_operand, is_known, length_there, second_operand
 use ob_evidence::site::{Site, is_kind, kind_or_name, rest_of};
 use ob_evidence::types::{note_whole, types_there};
 use ob_evidence::words::{are_told, is_counted, is_in_procedure, told_words, words_there};
-use ob_explain_names::actuals::actual_count;
-use ob_explain_names::declarations::in_record;
-use ob_explain_names::open::open_construct;
-use ob_explain_names::parens::is_in_parens;
+use ob_explain_tokens::actuals::actual_count;
+use ob_explain_tokens::open::{is_in_record, open_construct};
+use ob_explain_tokens::parens::is_in_parens;
 use ob_explain_words::distance::bytes_of;
 use ob_messages::remark::Remark;
 use ob_messages::said::Evidence;
@@ -79,7 +78,7 @@ pub(crate) fn twice_remark(alloc: Global, site: &Site<'_, '_>) -> Result<Remark,
     let facts = facts_of(
         alloc,
         &[
-            (in_record(site.before), Fact::InRecord),
+            (is_in_record(site.before), Fact::InRecord),
             (is_there(name), Fact::Before),
         ],
     )?;

@@ -2,17 +2,17 @@
 
 ghost use Rattle.std.specs.Prelude.{IfOk};
 ghost use Rattle.ob_diagnosis.specs.Remarks.{Tells};
-ghost use Rattle.ob_evidence.specs.Expected.{AreExpected};
+ghost use Rattle.ob_explain_names.specs.Expected.{AreExpected};
 ghost use Rattle.ob_evidence.specs.Sites.{scene_of};
 ghost use Rattle.ob_messages.specs.Remarks.{remark_of};
 
 use crate::table_rows::{Seen, nothing, of_facts, told};
 use crate::unexpected::seen_there;
 use ob_evidence::constructs::{inner_of, open_around, opening_of};
-use ob_evidence::expected::expected_kinds;
 use ob_evidence::facts::facts_of;
 use ob_evidence::names::end_name;
 use ob_evidence::site::{Site, is_kind, is_token, kind_or_name, line_of};
+use ob_explain_names::expected::expected_kinds;
 use ob_messages::remark::Remark;
 use ob_messages::said::Evidence;
 use ob_messages::table::{Fact, Number};

@@ -1,7 +1,7 @@
 -- Constructs that are shown, from what tells them.
 use Rattle.std.proofs.Common.{◌≡◌, List, Option, Some, None, sym, inl}
 use Rattle.ob_scan.specs.declared.token.Token.{Token}
-use Rattle.ob_explain_names.specs.Open.{else_if, open_construct}
+use Rattle.ob_explain_tokens.specs.Open.{else_if, open_construct}
 use Rattle.ob_evidence.specs.Constructs.{AreOpen, AreShown, IsInner, IsOpen}
 use Rattle.ob_evidence.specs.Sites.{Scene}
 use Rattle.ob_evidence.specs.declared.constructs.Shown.{Shown}

@@ -1,7 +1,7 @@
 -- Constructs that are shown beside a place.
 use Rattle.std.specs.Prelude.{◌≡◌, ◌⊎◌, List, Option, Some, None}
 use Rattle.ob_scan.specs.declared.token.Token.{Token}
-use Rattle.ob_explain_names.specs.Open.{else_if, open_construct}
+use Rattle.ob_explain_tokens.specs.Open.{else_if, open_construct}
 use Rattle.ob_evidence.specs.Sites.{Scene, rest_of}
 use Rattle.ob_evidence.specs.declared.constructs.Shown.{Shown}
 

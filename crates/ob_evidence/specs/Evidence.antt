@@ -4,17 +4,17 @@ use Rattle.std.specs.Prelude.{◌≡◌, Bool, List, [], ◌∷◌, Option, None
 use Rattle.ob_scan.specs.declared.token.Kind.TheVariants as Kinds
 use Rattle.ob_scan.specs.declared.token.Token.{Token}
 use Rattle.ob_explain_words.specs.Distance.{bytes_of}
-use Rattle.ob_explain_names.specs.Declarations.{in_record, is_there}
-use Rattle.ob_explain_names.specs.Actuals.{actual_count}
-use Rattle.ob_explain_names.specs.Open.{open_construct}
-use Rattle.ob_explain_names.specs.Parens.{is_in_parens}
+use Rattle.ob_explain_names.specs.Declarations.{is_there}
+use Rattle.ob_explain_tokens.specs.Actuals.{actual_count}
+use Rattle.ob_explain_tokens.specs.Open.{is_in_record, open_construct}
+use Rattle.ob_explain_tokens.specs.Parens.{is_in_parens}
 use Rattle.ob_messages.specs.Said.{Evidence}
 use Rattle.ob_messages.specs.declared.table.Fact.{Fact}
 use Rattle.ob_messages.specs.declared.table.Fact.TheVariants as Facts
 use Rattle.ob_messages.specs.declared.table.Number.{Number}
 use Rattle.ob_messages.specs.declared.table.Number.TheVariants as Numbers
 use Rattle.ob_evidence.specs.Constructs.{AreShown, IsOpen, inner_of, opening_of}
-use Rattle.ob_evidence.specs.Expected.{AreExpected}
+use Rattle.ob_explain_names.specs.Expected.{AreExpected}
 use Rattle.ob_evidence.specs.Facts.{facts_in}
 use Rattle.ob_evidence.specs.Names.{declared, declared_line, end_name, is_near, near_name, parameters, sort_facts, sort_there}
 use Rattle.ob_evidence.specs.Numbers.{first_operand, is_known, length_there, second_operand, written}
@@ -62,7 +62,7 @@ pub record IsUnknownName (s : Scene) (facts : List Fact) (e : Evidence) : Type 0
 -- C2: the line is that of the declaration before.
 pub record IsDeclaredTwice (s : Scene) (facts : List Fact) (e : Evidence) : Type 0 where
   pub line : e.line ≡ declared_line s.text (declared s)
-  pub noted : facts ≡ facts_in ((in_record 0 s.before, Facts.InRecord) ∷ (is_there (declared s), Facts.Before) ∷ [])
+  pub noted : facts ≡ facts_in ((is_in_record s.before, Facts.InRecord) ∷ (is_there (declared s), Facts.Before) ∷ [])
 
 -- C3: what a name stands for is what it is declared as; a whole array or a whole record before the place is what stands there.
 abbrev pub IsOtherSort : Scene → List Fact → Type 0

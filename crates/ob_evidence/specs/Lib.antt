@@ -1,4 +1,3 @@
-pub mod Expected
 pub mod Facts
 pub mod Sites
 pub mod Constructs

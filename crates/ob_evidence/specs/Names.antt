@@ -13,7 +13,7 @@ use Rattle.ob_explain_words.specs.declared.need.Need.TheVariants as Needs
 use Rattle.ob_explain_words.specs.declared.distance.Candidate.{Candidate}
 use Rattle.ob_explain_names.specs.Declarations.{declared_as}
 use Rattle.ob_explain_parts.specs.FieldNames.{fields_at}
-use Rattle.ob_explain_names.specs.Ends.{name_of_end}
+use Rattle.ob_explain_tokens.specs.Ends.{name_of_end}
 use Rattle.ob_messages.specs.Places.{place_in}
 use Rattle.ob_messages.specs.declared.table.Fact.{Fact}
 use Rattle.ob_messages.specs.declared.table.Fact.TheVariants as Facts

@@ -4,10 +4,10 @@ use Rattle.ob_scan.specs.declared.token.Kind.{Kind}
 use Rattle.ob_scan.specs.declared.token.Kind.TheVariants as Kinds
 use Rattle.ob_scan.specs.declared.token.Token.{Token}
 use Rattle.ob_explain_names.specs.Declarations.{token_bytes}
-use Rattle.ob_explain_names.specs.Kinds.{is_of}
+use Rattle.ob_explain_tokens.specs.Kinds.{is_of}
 use Rattle.ob_explain_names.specs.Numerals.{numeral_before, numeral_next}
 use Rattle.ob_explain_names.specs.declared.numerals.Numeral.{Numeral}
-use Rattle.ob_explain_names.specs.Around as Tokens
+use Rattle.ob_explain_tokens.specs.Around as Tokens
 use Rattle.ob_evidence.specs.Sites.{Scene, here, kind_of}
 
 -- * DIV and MOD bind closer than a sign

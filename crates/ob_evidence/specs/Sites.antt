@@ -9,8 +9,8 @@ use Rattle.ob_explain_names.specs.Lookup.{name_at}
 use Rattle.ob_explain_names.specs.Visible.{AreVisible}
 use Rattle.ob_explain_names.specs.declared.known.Known.{Known}
 use Rattle.ob_explain_names.specs.Declarations.{first_of}
-use Rattle.ob_explain_names.specs.Around.{AreTokens}
-use Rattle.ob_explain_names.specs.Around as Tokens
+use Rattle.ob_explain_tokens.specs.Around.{AreTokens}
+use Rattle.ob_explain_tokens.specs.Around as Tokens
 use Rattle.ob_messages.specs.Places.{place_in}
 use Rattle.ob_evidence.specs.declared.site.Site as Rust
 use Rattle.ob_evidence.specs.declared.site.Around.{Around}

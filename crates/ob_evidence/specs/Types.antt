@@ -3,12 +3,12 @@ use Rattle.std.specs.Prelude.{◌-◌, ◌++◌, Bool, true, false, List, [], �
 use Rattle.ob_scan.specs.declared.token.Kind.{Kind}
 use Rattle.ob_scan.specs.declared.token.Kind.TheVariants as Kinds
 use Rattle.ob_scan.specs.declared.token.Token.{Token}
-use Rattle.ob_explain_names.specs.Kinds.{ends_operand}
+use Rattle.ob_explain_tokens.specs.Kinds.{ends_operand}
 use Rattle.ob_explain_parts.specs.Forms.{form_before, form_behind, form_instead, other, role_of}
 use Rattle.ob_explain_parts.specs.Parameters.{parameter_form}
 use Rattle.ob_explain_parts.specs.declared.forms.Form.{Form}
 use Rattle.ob_explain_parts.specs.declared.forms.Form.TheVariants as Forms
-use Rattle.ob_explain_names.specs.Around as Tokens
+use Rattle.ob_explain_tokens.specs.Around as Tokens
 use Rattle.ob_messages.specs.declared.table.Fact.{Fact}
 use Rattle.ob_messages.specs.declared.table.Fact.TheVariants as Facts
 use Rattle.ob_messages.specs.declared.table.Type.{«Type»}

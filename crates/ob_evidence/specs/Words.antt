@@ -4,7 +4,7 @@ use Rattle.std.specs.List.{list_any}
 use Rattle.ob_scan.specs.declared.token.Kind.{Kind}
 use Rattle.ob_scan.specs.declared.token.Kind.TheVariants as Kinds
 use Rattle.ob_scan.specs.declared.token.Token.{Token}
-use Rattle.ob_explain_names.specs.Parens.{is_in_parens}
+use Rattle.ob_explain_tokens.specs.Parens.{is_in_parens}
 use Rattle.ob_explain_words.specs.Words.{words_of_type, words_with}
 use Rattle.ob_evidence.specs.Sites.{Scene, here, is_kind, last}
 

@@ -1,13 +1,13 @@
 //! The constructs that are open at a place, and what an END before it closes.
 
 ghost use Rattle.std.specs.Prelude.{◌≡◌, None, Some};
-ghost use Rattle.ob_explain_names.specs.Open.{open_construct};
+ghost use Rattle.ob_explain_tokens.specs.Open.{open_construct};
 ghost use Rattle.ob_evidence.specs.Constructs.{AreOpen, AreShown, IsInner, IsOpen, inner_of, opening_of};
 ghost use Rattle.ob_evidence.specs.Sites.{rest_of, scene_of};
 
 use crate::site::{Site, is_kind, kind_of, rest_of};
-use ob_explain_names::actuals::ends_call;
-use ob_explain_names::open::{closed_from, else_if, is_open, is_unit, open_construct};
+use ob_explain_tokens::actuals::ends_call;
+use ob_explain_tokens::open::{closed_from, else_if, is_open, is_unit, open_construct};
 use ob_messages::table::Fact;
 use ob_scan::{Kind, Token};
 

@@ -4,7 +4,6 @@
 #![tactic(auto)]
 
 pub mod constructs;
-pub mod expected;
 pub mod facts;
 pub mod names;
 pub mod numbers;

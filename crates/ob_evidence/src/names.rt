@@ -8,10 +8,10 @@ ghost use Rattle.ob_evidence.specs.Sites.{scene_of};
 
 use crate::site::{Site, is_kind, kind_of};
 use ob_explain_names::declarations::declared_as;
-use ob_explain_names::ends::name_of_end;
 use ob_explain_names::known::{Known, Sort};
 use ob_explain_names::lookup::sort_of;
 use ob_explain_parts::field_names::fields_at;
+use ob_explain_tokens::ends::name_of_end;
 use ob_explain_words::distance::{Candidate, FAR};
 use ob_explain_words::nearest::{nearest, nearest_token};
 use ob_explain_words::need::Need;

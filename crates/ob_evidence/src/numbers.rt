@@ -5,10 +5,10 @@ ghost use Rattle.ob_evidence.specs.Numbers.{binds_closer, first_operand, is_know
 ghost use Rattle.ob_evidence.specs.Sites.{scene_of};
 
 use crate::site::{Site, kind_of};
-use ob_explain_names::around::tokens_behind;
 use ob_explain_names::declarations::token_bytes;
-use ob_explain_names::kinds::is_of;
 use ob_explain_names::numerals::{Numeral, numeral_before, numeral_next};
+use ob_explain_tokens::around::tokens_behind;
+use ob_explain_tokens::kinds::is_of;
 use ob_scan::{Kind, Token};
 use std::alloc::{AllocError, Global};
 

@@ -4,11 +4,11 @@ ghost use Rattle.std.specs.Prelude.{◌≡◌, IfOk};
 ghost use Rattle.ob_evidence.specs.Sites.{IsScene, here, is_kind, is_token, kind_of, kind_or_name, last, line_of, next, rest_of};
 ghost use Rattle.ob_evidence.specs.Sites.{scene_in, scene_of, second, second_of, word, word_of};
 
-use ob_explain_names::around::{tokens_before, tokens_behind, tokens_of};
 use ob_explain_names::declarations::first_of;
 use ob_explain_names::known::Known;
 use ob_explain_names::lookup::name_at;
 use ob_explain_names::visible::visible_names;
+use ob_explain_tokens::around::{tokens_before, tokens_behind, tokens_of};
 use ob_messages::place::place_in;
 use ob_scan::{Kind, Token};
 use std::alloc::{AllocError, Global};

@@ -8,10 +8,10 @@ ghost use Rattle.ob_explain_parts.specs.Forms.{other};
 
 use crate::facts::note;
 use crate::site::{Site, is_kind};
-use ob_explain_names::around::tokens_behind;
-use ob_explain_names::kinds::{ends_operand, is_relation};
 use ob_explain_parts::forms::{Form, Role, form_before, form_behind, form_instead, other, role_of};
 use ob_explain_parts::parameters::parameter_form;
+use ob_explain_tokens::around::tokens_behind;
+use ob_explain_tokens::kinds::{ends_operand, is_relation};
 use ob_messages::table::{Fact, Type};
 use ob_scan::{Kind, Token};
 use std::alloc::{AllocError, Global};

@@ -5,7 +5,7 @@ ghost use Rattle.ob_evidence.specs.Sites.{scene_of};
 ghost use Rattle.ob_evidence.specs.Words.{are_told, beyond, is_counted, is_in_procedure, is_procedure_kind, is_type_there, most_words, told_words, words_there};
 
 use crate::site::{Site, is_kind};
-use ob_explain_names::parens::is_in_parens;
+use ob_explain_tokens::parens::is_in_parens;
 use ob_explain_words::words::{words_of_type, words_with};
 use ob_scan::Kind;
 use std::alloc::{AllocError, Global};

@@ -2,7 +2,7 @@
 use Rattle.std.specs.Prelude.{◌≡◌, ◌&&◌, ◌||◌, Bool, true, false, ℕ, List, [], ◌∷◌}
 use Rattle.std.specs.Str.{bytes_eq}
 use Rattle.ob_explain_names.specs.Declarations.{token_bytes}
-use Rattle.ob_explain_names.specs.Around.{AreTokens}
+use Rattle.ob_explain_tokens.specs.Around.{AreTokens}
 use Rattle.ob_scan.specs.declared.token.Kind.{Kind}
 use Rattle.ob_scan.specs.declared.token.Kind.TheVariants.{Procedure}
 use Rattle.ob_scan.specs.declared.token.Token.{Token}

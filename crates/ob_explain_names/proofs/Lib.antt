@@ -1,6 +1,5 @@
 pub mod Added
+pub mod Begun
 pub mod NoNames
-pub mod NoTokens
-pub mod OpenSteps
-pub mod Records
-pub mod Steps
+pub mod Places
+pub mod Tried

@@ -1,12 +1,10 @@
 -- The declarations of names, by the tokens of a text and the names that are visible at a place.
-use Rattle.std.specs.Prelude.{ℕ, zero, suc, ◌-◌, Bool, true, false, List, [], ◌∷◌, bytes_eq, drop, find, reverse, take, Option, Some, None, if◌then◌else◌}
-use Rattle.ob_scan.specs.declared.token.Kind.{Kind}
-use Rattle.ob_scan.specs.declared.token.Kind.TheVariants as Kinds
+use Rattle.std.specs.Prelude.{ℕ, ◌-◌, Bool, true, false, List, [], ◌∷◌, bytes_eq, drop, find, reverse, take, Option, Some, None}
 use Rattle.ob_scan.specs.declared.token.Token.{Token}
 use Rattle.ob_explain_names.specs.Lookup.{name_at}
 use Rattle.ob_explain_names.specs.declared.known.Known.{Known}
-use Rattle.ob_explain_names.specs.Around as Tokens
-use Rattle.ob_explain_names.specs.Kinds.{is_colon, is_end, is_record}
+use Rattle.ob_explain_tokens.specs.Around as Tokens
+use Rattle.ob_explain_tokens.specs.Kinds.{is_colon}
 
 -- the bytes of a token
 abbrev pub token_bytes : (text : List ℕ) → Token → List ℕ
@@ -38,26 +36,3 @@ behind_token tokens (Some t) = first_of (Tokens.behind t.start tokens)
 -- only names and commas stand between.
 unfoldable pub type_token : List Token → (place : ℕ) → Option Token
 type_token tokens place = behind_token tokens (find is_colon_token (Tokens.behind place tokens))
-
--- a keyword before declarations, or before a name that is declared
-abbrev pub begins_part : Kind → Bool
-begins_part Kinds.Const = true
-begins_part Kinds.Type = true
-begins_part Kinds.Var = true
-begins_part Kinds.Procedure = true
-begins_part _ = false
-
--- Whether a name that is declared stands in a record, of the tokens before it, the last one first: a RECORD opens it that so many more
--- ENDs do not close. Between a keyword that begins a part and the name there are no other ENDs.
-unfoldable pub in_record : (closed : ℕ) → (before : List Token) → Bool
-in_record closed [] = false
-in_record zero (t ∷ rest) =
-    if begins_part t.kind then false
-    else if is_record t.kind then true
-    else if is_end t.kind then in_record 1 rest
-    else in_record 0 rest
-in_record (suc closed) (t ∷ rest) =
-    if begins_part t.kind then false
-    else if is_record t.kind then in_record closed rest
-    else if is_end t.kind then in_record (suc (suc closed)) rest
-    else in_record (suc closed) rest

@@ -1,11 +1,6 @@
-pub mod Actuals
-pub mod Around
 pub mod Declarations
-pub mod Ends
-pub mod Kinds
+pub mod Expected
 pub mod Known
 pub mod Lookup
 pub mod Numerals
-pub mod Open
-pub mod Parens
 pub mod Visible

@@ -5,9 +5,9 @@ use Rattle.ob_explain_names.specs.Lookup.{name_at}
 use Rattle.ob_explain_names.specs.declared.known.Known.{Known}
 use Rattle.ob_explain_names.specs.declared.known.Sort.{Sort}
 use Rattle.ob_explain_names.specs.declared.known.Sort.TheVariants as Sorts
-use Rattle.ob_explain_names.specs.Around as Tokens
+use Rattle.ob_explain_tokens.specs.Around as Tokens
 use Rattle.ob_explain_names.specs.Declarations.{declared_as}
-use Rattle.ob_explain_names.specs.Kinds.{ends_operand, is_minus, is_name, is_number, is_semicolon, is_sign, multiplies}
+use Rattle.ob_explain_tokens.specs.Kinds.{ends_operand, is_minus, is_name, is_number, is_semicolon, is_sign, multiplies}
 use Rattle.ob_explain_names.specs.declared.numerals.Numeral.{Numeral}
 
 abbrev pub plain : Token → Numeral

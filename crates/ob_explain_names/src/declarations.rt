@@ -1,15 +1,15 @@
 //! The declarations of names, by the tokens of a text and the names that are visible at a place.
 
 ghost use Rattle.std.specs.Prelude.{◌≡◌, IfOk, find};
-ghost use Rattle.ob_explain_names.specs.Declarations.{begins_part, behind_token, declared_as, first_of, in_record, is_colon_token, is_named};
-ghost use Rattle.ob_explain_names.specs.Declarations.{is_there, token_bytes, type_token};
+ghost use Rattle.ob_explain_names.specs.Declarations.{behind_token, declared_as, first_of, is_colon_token, is_named, is_there, token_bytes};
+ghost use Rattle.ob_explain_names.specs.Declarations.{type_token};
 
-use crate::around::tokens_behind;
-use crate::kinds::{is_colon, is_end, is_record};
 use crate::known::Known;
 use crate::lookup::name_at;
+use ob_explain_tokens::around::tokens_behind;
+use ob_explain_tokens::kinds::is_colon;
 use ob_messages::words::is_same;
-use ob_scan::{Kind, Token};
+use ob_scan::Token;
 use std::alloc::{AllocError, Global};
 
 /// The bytes of a token of a text.
@@ -92,33 +92,4 @@ pub fn first_of(tokens: &[Token]) -> Option<Token>
     ensures { result ≡ first_of tokens.now }
 {
     tokens.first().copied()
-}
-
-/// Whether a name that is declared stands in a record, of the tokens before it, the last one first.
-#[tactic(auto, using(crate::proofs::Records::begins_there, crate::proofs::Records::opens_there, crate::proofs::Records::opens_other, crate::proofs::Records::ends_there, crate::proofs::Records::goes_on, crate::proofs::Records::none_left))]
-pub fn in_record(before: &[Token]) -> bool
-    ensures { result ≡ in_record 0 before.now }
-{
-    let mut closed: usize = 0;
-    for token in before {
-        if begins_part(token.kind) {
-            return false;
-        }
-        if is_record(token.kind) {
-            if closed == 0 {
-                return true;
-            }
-            closed -= 1;
-        } else if is_end(token.kind) {
-            closed += 1;
-        }
-    }
-    false
-}
-
-/// Whether a keyword stands before declarations, or before a name that is declared.
-fn begins_part(kind: Kind) -> bool
-    ensures { result ≡ begins_part kind }
-{
-    matches!(kind, Kind::Const | Kind::Type | Kind::Var | Kind::Procedure)
 }

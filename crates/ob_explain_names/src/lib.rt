@@ -1,17 +1,13 @@
-//! What is known of a name, a token and an operand at which a module breaks a rule: what it is declared as, what stands beside it, and its type.
+//! What the parser and the declarations of a module's text tell at a place: the names that are visible there, what a name is declared as,
+//! the numbers that are written or stand for constants, and which kinds of token could stand there.
 //!
 //! One may rely on the clauses of the public functions.
 #![tactic(auto)]
 
-pub mod actuals;
-pub mod around;
 pub mod declarations;
 pub mod declared;
-pub mod ends;
-pub mod kinds;
+pub mod expected;
 pub mod known;
 pub mod lookup;
 pub mod numerals;
-pub mod open;
-pub mod parens;
 pub mod visible;

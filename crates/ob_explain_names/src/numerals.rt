@@ -5,11 +5,13 @@ ghost use Rattle.ob_explain_names.specs.Declarations.{declared_as};
 ghost use Rattle.ob_explain_names.specs.Numerals.{is_constant, negated, negated_too, negative, numeral_before, numeral_behind, numeral_declared};
 ghost use Rattle.ob_explain_names.specs.Numerals.{numeral_next, numeral_of, plain, signed};
 
-use crate::around::tokens_behind;
 use crate::declarations::declared_as;
-use crate::kinds::{ends_operand, is_minus, is_name, is_number, is_semicolon, is_sign, multiplies};
 use crate::known::{Known, Sort};
 use crate::lookup::name_at;
+use ob_explain_tokens::around::tokens_behind;
+use ob_explain_tokens::kinds::{
+    ends_operand, is_minus, is_name, is_number, is_semicolon, is_sign, multiplies,
+};
 use ob_scan::Token;
 use std::alloc::{AllocError, Global};
 

@@ -1,7 +1,7 @@
 -- Tokens of calls and of headings one by one.
 use Rattle.std.proofs.Common.{◌≡◌, ℕ, zero, suc, ◌+◌, ◌-◌, ◌<◌, ◌≤◌, Bool, true, false, cond, List, Option, Some, None, length, get_or, drop, refl, sym, ◌∙◌, ap, add-one, drop-cons, drop_of_length-le, arith}
 use Rattle.ob_scan.specs.declared.token.Token.{Token}
-use Rattle.ob_explain_names.specs.Kinds.{is_right}
+use Rattle.ob_explain_tokens.specs.Kinds.{is_right}
 use Rattle.ob_explain_parts.specs.Parameters.{comma, handed_at, is_outside, is_parameter, parameter_named, still_in_type}
 
 -- what is left of the tokens before an actual

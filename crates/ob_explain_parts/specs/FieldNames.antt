@@ -5,7 +5,7 @@ use Rattle.ob_explain_names.specs.Lookup.{name_at}
 use Rattle.ob_explain_names.specs.declared.known.Known.{Known}
 use Rattle.ob_explain_names.specs.declared.known.Sort.{Sort}
 use Rattle.ob_explain_names.specs.declared.known.Sort.TheVariants as Sorts
-use Rattle.ob_explain_names.specs.Around as Tokens
+use Rattle.ob_explain_tokens.specs.Around as Tokens
 use Rattle.ob_explain_names.specs.Declarations.{declared_as}
 use Rattle.ob_explain_parts.specs.Parts.{operand_start, selected}
 use Rattle.ob_explain_parts.specs.Types.{declared_type, fields_of, meant}

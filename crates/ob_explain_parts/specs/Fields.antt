@@ -2,7 +2,7 @@
 use Rattle.std.specs.Prelude.{ℕ, ◌+◌, ◌-◌, ◌==◌, ◌&&◌, Bool, false, List, [], ◌∷◌, ◌++◌, if◌then◌else◌}
 use Rattle.ob_scan.specs.declared.token.Kind.{Kind}
 use Rattle.ob_scan.specs.declared.token.Token.{Token}
-use Rattle.ob_explain_names.specs.Kinds.{is_colon, is_end, is_name, is_record, is_semicolon}
+use Rattle.ob_explain_tokens.specs.Kinds.{is_colon, is_end, is_name, is_record, is_semicolon}
 use Rattle.ob_explain_parts.specs.declared.fields.Listing.{Listing}
 use Rattle.ob_explain_parts.specs.declared.fields.Listing.TheVariants.{Names, Within}
 

@@ -7,9 +7,9 @@ use Rattle.ob_explain_names.specs.Lookup.{name_at}
 use Rattle.ob_explain_names.specs.declared.known.Known.{Known}
 use Rattle.ob_explain_names.specs.declared.known.Sort.{Sort}
 use Rattle.ob_explain_names.specs.declared.known.Sort.TheVariants as Sorts
-use Rattle.ob_explain_names.specs.Around as Tokens
+use Rattle.ob_explain_tokens.specs.Around as Tokens
 use Rattle.ob_explain_names.specs.Declarations.{declared_as, first_of, is_there}
-use Rattle.ob_explain_names.specs.Kinds.{is_array, is_comma, is_left, is_name, is_not, is_number, is_record, is_relation, is_right, is_semicolon, is_sign, multiplies}
+use Rattle.ob_explain_tokens.specs.Kinds.{is_array, is_comma, is_left, is_name, is_not, is_number, is_record, is_relation, is_right, is_semicolon, is_sign, multiplies}
 use Rattle.ob_explain_names.specs.Numerals.{numeral_behind}
 use Rattle.ob_explain_parts.specs.Inside.{has_truth}
 use Rattle.ob_explain_parts.specs.Parts.{is_value, operand_start, selected}

@@ -4,7 +4,7 @@ use Rattle.std.specs.List.{list_any}
 use Rattle.ob_scan.specs.declared.token.Kind.{Kind}
 use Rattle.ob_scan.specs.declared.token.Kind.TheVariants as Kinds
 use Rattle.ob_scan.specs.declared.token.Token.{Token}
-use Rattle.ob_explain_names.specs.Kinds.{is_left, is_relation, is_right}
+use Rattle.ob_explain_tokens.specs.Kinds.{is_left, is_relation, is_right}
 
 -- & OR ~
 abbrev pub takes_truths : Kind → Bool

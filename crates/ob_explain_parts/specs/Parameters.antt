@@ -7,10 +7,10 @@ use Rattle.ob_explain_names.specs.Lookup.{name_at}
 use Rattle.ob_explain_names.specs.declared.known.Known.{Known}
 use Rattle.ob_explain_names.specs.declared.known.Sort.{Sort}
 use Rattle.ob_explain_names.specs.declared.known.Sort.TheVariants as Sorts
-use Rattle.ob_explain_names.specs.Around as Tokens
+use Rattle.ob_explain_tokens.specs.Around as Tokens
 use Rattle.ob_explain_names.specs.Declarations.{declared_as}
 use Rattle.ob_explain_parts.specs.Forms.{form_of_type}
-use Rattle.ob_explain_names.specs.Kinds.{is_colon, is_name, is_right, is_semicolon}
+use Rattle.ob_explain_tokens.specs.Kinds.{is_colon, is_name, is_right, is_semicolon}
 use Rattle.ob_explain_parts.specs.Types.{declared_type}
 use Rattle.ob_explain_parts.specs.declared.forms.Form.{Form}
 use Rattle.ob_explain_parts.specs.declared.forms.Form.TheVariants as Forms

@@ -4,7 +4,7 @@ use Rattle.ob_scan.specs.declared.token.Kind.{Kind}
 use Rattle.ob_scan.specs.declared.token.Token.{Token}
 use Rattle.ob_explain_names.specs.Lookup.{name_at}
 use Rattle.ob_explain_names.specs.declared.known.Known.{Known}
-use Rattle.ob_explain_names.specs.Kinds.{closes_bracket, is_dot, is_name, is_number, opens_bracket, selects}
+use Rattle.ob_explain_tokens.specs.Kinds.{closes_bracket, is_dot, is_name, is_number, opens_bracket, selects}
 use Rattle.ob_explain_parts.specs.Types.{element_of, field_of, meant}
 use Rattle.ob_explain_parts.specs.declared.parts.Selection.{Selection}
 use Rattle.ob_explain_parts.specs.declared.parts.Selecting.{Selecting}

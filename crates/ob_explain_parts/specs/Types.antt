@@ -6,10 +6,10 @@ use Rattle.ob_explain_names.specs.Lookup.{name_at}
 use Rattle.ob_explain_names.specs.declared.known.Known.{Known}
 use Rattle.ob_explain_names.specs.declared.known.Sort.{Sort}
 use Rattle.ob_explain_names.specs.declared.known.Sort.TheVariants as Sorts
-use Rattle.ob_explain_names.specs.Around as Tokens
+use Rattle.ob_explain_tokens.specs.Around as Tokens
 use Rattle.ob_explain_names.specs.Declarations.{behind_token, is_named, type_token}
 use Rattle.ob_explain_parts.specs.Fields.{fields_behind}
-use Rattle.ob_explain_names.specs.Kinds.{is_array, is_of, is_record}
+use Rattle.ob_explain_tokens.specs.Kinds.{is_array, is_of, is_record}
 use Rattle.ob_explain_parts.specs.declared.fields.Listing.TheVariants.{Names}
 use Rattle.ob_explain_parts.specs.declared.types.Standing.{Standing}
 

@@ -5,10 +5,10 @@ ghost use Rattle.ob_explain_parts.specs.FieldNames.{between, fields_at, fields_b
 
 use crate::parts::{operand_start, selected};
 use crate::types::{Standing, declared_type, fields_of, meant};
-use ob_explain_names::around::{tokens_before, tokens_behind};
 use ob_explain_names::declarations::declared_as;
 use ob_explain_names::known::{Known, Sort};
 use ob_explain_names::lookup::name_at;
+use ob_explain_tokens::around::{tokens_before, tokens_behind};
 use ob_scan::Token;
 use std::alloc::{AllocError, Global};
 

@@ -2,7 +2,7 @@
 
 ghost use Rattle.std.specs.Prelude.{◌≡◌, IfOk, find, not};
 ghost use Rattle.ob_explain_names.specs.Declarations.{declared_as};
-ghost use Rattle.ob_explain_names.specs.Kinds.{is_left};
+ghost use Rattle.ob_explain_tokens.specs.Kinds.{is_left};
 ghost use Rattle.ob_explain_parts.specs.Forms.{begins_actual, behind_operand, constant_form, ends_actual, form_at, form_before, form_behind, form_by};
 ghost use Rattle.ob_explain_parts.specs.Forms.{form_inside, form_instead, form_of_name, form_of_type, is_own, is_relation_there, joins, joins_there};
 ghost use Rattle.ob_explain_parts.specs.Forms.{operand_form, or_single, other};
@@ -12,15 +12,15 @@ ghost use Rattle.ob_explain_parts.specs.Forms.{variable_at};
 use crate::inside::has_truth;
 use crate::parts::{Selection, is_value, operand_start, selected};
 use crate::types::{Standing, declared_type, meant};
-use ob_explain_names::around::tokens_behind;
 use ob_explain_names::declarations::{declared_as, first_of, is_declared};
-use ob_explain_names::kinds::{
-    is_array, is_comma, is_left, is_name, is_not, is_number, is_record, is_relation, is_right,
-    is_semicolon, is_sign, multiplies,
-};
 use ob_explain_names::known::{Known, Sort};
 use ob_explain_names::lookup::name_at;
 use ob_explain_names::numerals::{Numeral, numeral_behind};
+use ob_explain_tokens::around::tokens_behind;
+use ob_explain_tokens::kinds::{
+    is_array, is_comma, is_left, is_name, is_not, is_number, is_record, is_relation, is_right,
+    is_semicolon, is_sign, multiplies,
+};
 use ob_messages::words::is_same;
 use ob_scan::{Kind, Token};
 use std::alloc::{AllocError, Global};

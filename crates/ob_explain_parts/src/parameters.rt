@@ -6,11 +6,11 @@ ghost use Rattle.ob_explain_parts.specs.Parameters.{parameter_form, parameter_na
 
 use crate::forms::{Form, form_of_type};
 use crate::types::{Standing, declared_type};
-use ob_explain_names::around::tokens_behind;
 use ob_explain_names::declarations::declared_as;
-use ob_explain_names::kinds::{is_colon, is_name, is_right, is_semicolon};
 use ob_explain_names::known::{Known, Sort};
 use ob_explain_names::lookup::name_at;
+use ob_explain_tokens::around::tokens_behind;
+use ob_explain_tokens::kinds::{is_colon, is_name, is_right, is_semicolon};
 use ob_scan::{Kind, Token};
 use std::alloc::{AllocError, Global};
 

@@ -5,9 +5,11 @@ ghost use Rattle.ob_explain_parts.specs.Parts.{brackets_before, ends_index, ends
 ghost use Rattle.ob_explain_parts.specs.Parts.{open_brackets, operand_start, part_at, part_behind, selected, selecting_behind, stands_before};
 
 use crate::types::{Standing, element_of, field_of, meant};
-use ob_explain_names::kinds::{closes_bracket, is_dot, is_name, is_number, opens_bracket, selects};
 use ob_explain_names::known::Known;
 use ob_explain_names::lookup::name_at;
+use ob_explain_tokens::kinds::{
+    closes_bracket, is_dot, is_name, is_number, opens_bracket, selects,
+};
 use ob_scan::{Kind, Token};
 use std::alloc::{AllocError, Global};
 

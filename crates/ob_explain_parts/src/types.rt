@@ -6,11 +6,11 @@ ghost use Rattle.ob_explain_parts.specs.Types.{declared_type, element_of, field_
 ghost use Rattle.ob_explain_parts.specs.Types.{meant, named_type, second_of, type_from, type_behind};
 
 use crate::fields::fields_behind;
-use ob_explain_names::around::tokens_behind;
 use ob_explain_names::declarations::{behind_token, is_named, type_token};
-use ob_explain_names::kinds::{is_array, is_of, is_record};
 use ob_explain_names::known::{Known, Sort};
 use ob_explain_names::lookup::name_at;
+use ob_explain_tokens::around::tokens_behind;
+use ob_explain_tokens::kinds::{is_array, is_of, is_record};
 use ob_messages::words::is_same;
 use ob_scan::Token;
 use std::alloc::{AllocError, Global};

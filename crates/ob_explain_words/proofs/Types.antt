@@ -2,7 +2,7 @@
 use Rattle.std.proofs.Common.{◌≡◌, ℕ, zero, suc, ◌-◌, ◌<◌, ◌≤◌, true, false, List, [], ◌∷◌, None, length, get_or, drop, refl, sym, ◌∙◌, ap, arith}
 use Rattle.ob_scan.specs.declared.token.Token.{Token}
 use Rattle.ob_explain_words.specs.Counts.{at_least_one, product_of}
-use Rattle.ob_explain_names.specs.Kinds.{is_array, is_record}
+use Rattle.ob_explain_tokens.specs.Kinds.{is_array, is_record}
 use Rattle.ob_explain_words.specs.Lengths.{length_behind}
 use Rattle.ob_explain_words.specs.Scopes.{Scope}
 use Rattle.ob_explain_words.specs.Types.{list_words, simple_words, type_words}

@@ -5,7 +5,7 @@ use Rattle.ob_scan.specs.declared.token.Kind.{Kind}
 use Rattle.ob_scan.specs.declared.token.Kind.TheVariants as Kinds
 use Rattle.ob_scan.specs.declared.token.Token.{Token}
 use Rattle.ob_explain_names.specs.Declarations.{token_bytes}
-use Rattle.ob_explain_names.specs.Kinds.{is_colon, is_comma, is_name}
+use Rattle.ob_explain_tokens.specs.Kinds.{is_colon, is_comma, is_name}
 use Rattle.ob_explain_words.specs.declared.declaring.Part.{Part}
 use Rattle.ob_explain_words.specs.declared.declaring.Part.TheVariants.{Outside, Heading, Begins, Within}
 

@@ -8,7 +8,7 @@ use Rattle.ob_explain_names.specs.Declarations.{token_bytes}
 use Rattle.ob_explain_names.specs.Numerals.{numeral_next}
 use Rattle.ob_explain_names.specs.declared.numerals.Numeral.{Numeral}
 use Rattle.ob_explain_words.specs.Counts.{fitting}
-use Rattle.ob_explain_names.specs.Kinds.{is_of}
+use Rattle.ob_explain_tokens.specs.Kinds.{is_of}
 use Rattle.ob_explain_words.specs.Scopes.{Scope}
 
 abbrev pub are_digits : List ℕ → Bool

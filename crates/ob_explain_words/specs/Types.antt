@@ -4,7 +4,7 @@ use Rattle.std.specs.Prelude.{option_and_then, if◌then◌else◌}
 use Rattle.ob_scan.specs.declared.token.Kind.{Kind}
 use Rattle.ob_scan.specs.declared.token.Token.{Token}
 use Rattle.ob_explain_names.specs.Lookup.{name_at}
-use Rattle.ob_explain_names.specs.Kinds.{is_array, is_colon, is_end, is_name, is_record, is_semicolon}
+use Rattle.ob_explain_tokens.specs.Kinds.{is_array, is_colon, is_end, is_name, is_record, is_semicolon}
 use Rattle.ob_explain_words.specs.Counts.{at_least_one, product_of, sum_of}
 use Rattle.ob_explain_words.specs.Kinds.{is_listed}
 use Rattle.ob_explain_words.specs.Lengths.{length_behind}

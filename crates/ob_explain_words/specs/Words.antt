@@ -5,7 +5,7 @@ use Rattle.ob_scan.specs.declared.token.Token.{Token}
 use Rattle.ob_explain_names.specs.declared.known.Known.{Known}
 use Rattle.ob_explain_names.specs.declared.known.Sort.{Sort}
 use Rattle.ob_explain_names.specs.declared.known.Sort.TheVariants as Sorts
-use Rattle.ob_explain_names.specs.Around as Tokens
+use Rattle.ob_explain_tokens.specs.Around as Tokens
 use Rattle.ob_explain_words.specs.Counts.{sum_of}
 use Rattle.ob_explain_words.specs.Kinds.{is_var}
 use Rattle.ob_explain_words.specs.Scopes.{Scope}

@@ -4,7 +4,7 @@ ghost use Rattle.std.specs.Prelude.{◌≡◌};
 ghost use Rattle.ob_explain_words.specs.Declaring.{declares, is_before_equal, is_declared_at, is_listed, is_word, part_behind};
 
 use ob_explain_names::declarations::token_bytes;
-use ob_explain_names::kinds::{is_colon, is_comma, is_name};
+use ob_explain_tokens::kinds::{is_colon, is_comma, is_name};
 use ob_messages::words::is_same;
 use ob_scan::{Kind, Token};
 

@@ -12,8 +12,8 @@ use crate::kinds::is_listed;
 use crate::lengths::length_behind;
 use crate::named::named_words;
 use crate::scope::Scope;
-use ob_explain_names::kinds::{is_array, is_colon, is_end, is_name, is_record, is_semicolon};
 use ob_explain_names::lookup::name_at;
+use ob_explain_tokens::kinds::{is_array, is_colon, is_end, is_name, is_record, is_semicolon};
 use ob_scan::{Kind, Token};
 use std::alloc::{AllocError, Global};
 

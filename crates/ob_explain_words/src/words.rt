@@ -9,8 +9,8 @@ use crate::kinds::is_var;
 use crate::listed::{DEEPEST, list_words, type_words};
 use crate::named::NamedType;
 use crate::scope::Scope;
-use ob_explain_names::around::{tokens_before, tokens_behind};
 use ob_explain_names::known::{Known, Sort};
+use ob_explain_tokens::around::{tokens_before, tokens_behind};
 use ob_scan::Token;
 use std::alloc::{AllocError, Global};
 

@@ -3,8 +3,8 @@ use Rattle.std.proofs.lemmas.Result.{IfOk-weaker}
 use Rattle.ob_scan.specs.declared.token.Token.{Token}
 use Rattle.ob_explain_names.specs.Visible.{AreVisible}
 use Rattle.ob_explain_names.specs.declared.known.Known.{Known}
-use Rattle.ob_explain_names.specs.Around.{AreTokens}
-use Rattle.ob_explain_names.specs.Around as Tokens
+use Rattle.ob_explain_tokens.specs.Around.{AreTokens}
+use Rattle.ob_explain_tokens.specs.Around as Tokens
 use Rattle.ob_evidence.specs.Sites.{IsScene, Scene}
 use Rattle.ob_diagnosis.proofs.remark.remark_on.Goals as goal
 

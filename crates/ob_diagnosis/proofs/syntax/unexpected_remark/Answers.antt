@@ -1,6 +1,6 @@
 use Rattle.std.proofs.Common.{List, subst, sym}
 use Rattle.ob_scan.specs.declared.token.Kind.{Kind}
-use Rattle.ob_evidence.specs.Expected.{AreExpected}
+use Rattle.ob_explain_names.specs.Expected.{AreExpected}
 use Rattle.ob_diagnosis.proofs.syntax.unexpected_remark.Goals as goal
 
 pub expected_remark-requires : goal.expected_remark-requires

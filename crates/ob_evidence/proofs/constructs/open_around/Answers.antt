@@ -1,6 +1,6 @@
 use Rattle.std.proofs.Common.{List, ap, ◌∙◌}
 use Rattle.ob_scan.specs.declared.token.Token.{Token}
-use Rattle.ob_explain_names.specs.Open.{open_construct}
+use Rattle.ob_explain_tokens.specs.Open.{open_construct}
 use Rattle.ob_evidence.proofs.Shown.{open_alone}
 use Rattle.ob_evidence.proofs.constructs.open_around.Goals as goal
 

@@ -1,7 +1,0 @@
--- Of the kinds so far those that are expected.
-use Rattle.std.proofs.Common.{take}
-use Rattle.ob_evidence.specs.Expected.{Expected}
-use Rattle.ob_evidence.proofs.expected.expected_kinds.Given as goal
-
-abbrev pub invariant-loop-kind : goal.invariant-loop-kind
-invariant-loop-kind l = Expected l.text l.at (take l.kind-index l.kind-items) l.expected.items

@@ -1,0 +1,3 @@
+pub mod NoTokens
+pub mod OpenSteps
+pub mod Steps
