@@ -4,7 +4,8 @@ ghost use Rattle.std.specs.Prelude.{◌≡◌, ◌⊎◌, ℕ, List, Option, Som
 ghost use Rattle.clap.specs.Words.{fault_of};
 ghost use Rattle.ob_command_line.specs.ClapCommand.{obl0_app};
 ghost use Rattle.ob_command.specs.CommandLine.{Bound, Check, Draw, DrawHistory, DrawRecord, Explain, ExplainAlways, ExplainCalls, ExplainFault};
-ghost use Rattle.ob_command.specs.CommandLine.{ExplainHistory, ExplainRecord, ExplainRecordTraps, ExplainRun, ExplainTraps, Help, Listing, Live, Order, Outcomes, Run, RunByChance, RunFinished, RunSteps, RunTree, Seq, State};
+ghost use Rattle.ob_command.specs.CommandLine.{ExplainHistory, ExplainRecord, ExplainRecordTraps, ExplainRun, ExplainTraps, Help};
+ghost use Rattle.ob_command.specs.CommandLine.{Listing, Live, Order, Outcomes, Run, RunByChance, RunFinished, RunSteps, RunTree, Seq, State};
 ghost use Rattle.ob_command.specs.CommandLine.{Serve, Text, Unclear, Verify};
 ghost use Rattle.ob_command.specs.CommandLine.{Version, asks_command, form_mistake_of, is_option, most_mistake, names_fault, parts_mistake};
 ghost use Rattle.ob_command_line.specs.HelpWords.{command_names};
