@@ -1,13 +1,14 @@
 //! The values that a line says as runs write them.
 
 ghost use Rattle.std.specs.Prelude.{◌≡◌, IfOk, IfSome};
-ghost use Rattle.ob_text_words.specs.Values.{is_of_mode, types_of};
+ghost use Rattle.ob_text_words.specs.Values.{types_of};
 ghost use Rattle.ob_text_values_reading.specs.LineBeginnings.{TakesValues};
 
 use crate::text_beginning::front_value;
 use ob_interface::NoMemory;
 use ob_interface::export::Formal;
 use ob_interface::scalar::Scalar;
+use ob_text_words::parameters::is_of_mode;
 use smallvec::SmallVec;
 use std::alloc::Global;
 use wf_history::KeptScalars;
@@ -39,15 +40,4 @@ pub fn front_values<'a>(
     };
     let kept = KeptScalars::from_slice(alloc, values.as_slice())?;
     Ok(Some((kept, rest)))
-}
-
-/// Whether a parameter is a VAR parameter, or is none, as is asked.
-fn is_of_mode(is_var: bool, formal: &Formal) -> bool
-    ensures { result ≡ is_of_mode is_var formal.now }
-{
-    if is_var {
-        formal.is_var
-    } else {
-        !formal.is_var
-    }
 }

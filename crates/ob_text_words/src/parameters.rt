@@ -63,7 +63,8 @@ pub fn read_values(
 }
 
 /// Whether a parameter is a VAR parameter, or is none, as is asked.
-fn is_of_mode(is_var: bool, formal: &Formal) -> bool
+#[inline(always)]
+pub fn is_of_mode(is_var: bool, formal: &Formal) -> bool
     ensures { result ≡ is_of_mode is_var formal.now }
 {
     if is_var {

@@ -4,11 +4,11 @@
 #![tactic(auto)]
 
 pub mod ended;
+pub mod event_makers;
 mod item;
 pub mod laws;
-pub mod making;
 pub mod playing;
 
 pub use ended::{EndedCall, ended_calls};
-pub use making::makers;
+pub use event_makers::makers;
 pub use playing::{PlayFault, play};

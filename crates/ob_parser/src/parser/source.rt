@@ -12,16 +12,13 @@ use crate::parser::{ParseFault, Parser};
 use ob_grammar::module::Module;
 use ob_scan::{ScanFault, ScannedTokens};
 use std::alloc::Global;
-use thiserror::Error;
 
 /// Why a text is no module by the rules of tokens and of the grammar.
-#[derive(Clone, Copy, Debug, Error)]
+#[derive(Clone, Copy)]
 pub enum SourceFault {
     /// A fault of the scanner.
-    #[error("{0}")]
     Scan(ScanFault),
     /// A fault of the parser.
-    #[error("{0}")]
     Parse(ParseFault),
 }
 

@@ -1,7 +1,7 @@
 use Rattle.std.proofs.Common.{◌+◌, ap, arith, refl}
 use Rattle.wf_play.proofs.Ends.{still_same}
 use Rattle.wf_play.proofs.Makings.{turns_quiet, turns_next}
-use Rattle.wf_play.proofs.making.take_turns.Goals as goal
+use Rattle.wf_play.proofs.event_makers.take_turns.Goals as goal
 
 pub loop-taken-preserved : goal.loop-taken-preserved
 loop-taken-preserved g c =

@@ -5,7 +5,7 @@ use Rattle.wf_play.specs.Played.{scripts_of}
 use Rattle.wf_play.proofs.Makings.{makers_of_run}
 use Rattle.wf_play.proofs.Plays.{of_started}
 use Rattle.wf_table.specs.Schedule.{steps_of}
-use Rattle.wf_play.proofs.making.makers.Goals as goal
+use Rattle.wf_play.proofs.event_makers.makers.Goals as goal
 
 pub returns-clause-makers : goal.returns-clause-makers
 returns-clause-makers g c =

@@ -2,7 +2,7 @@ use Rattle.std.proofs.Common.{◌≡◌, ◌-◌, ◌≤◌, ◌++◌, replicate
 use Rattle.wf_play.specs.Makers.{makers_in}
 use Rattle.wf_play.specs.Played.{IsSameObject}
 use Rattle.wf_table.specs.Runs.{run, turns}
-use Rattle.wf_play.proofs.making.take_turns.Given as goal
+use Rattle.wf_play.proofs.event_makers.take_turns.Given as goal
 
 abbrev pub invariant-loop-taken : goal.invariant-loop-taken
 invariant-loop-taken g l =

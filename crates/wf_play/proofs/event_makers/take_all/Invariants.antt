@@ -3,7 +3,7 @@ use Rattle.wf_play.specs.Makers.{makers_in}
 use Rattle.wf_play.specs.Played.{IsSameObject}
 use Rattle.wf_table.specs.Runs.{run, turns}
 use Rattle.wf_table.specs.Schedule.{steps_of}
-use Rattle.wf_play.proofs.making.take_all.Given as goal
+use Rattle.wf_play.proofs.event_makers.take_all.Given as goal
 
 abbrev pub invariant-loop-turns : goal.invariant-loop-turns
 invariant-loop-turns g l =

@@ -2,7 +2,7 @@ use Rattle.std.proofs.Common.{get_or}
 use Rattle.std.proofs.lemmas.Option.{slice_get-get_or}
 use Rattle.wf_table.specs.declared.schedule.Turns.{Turns}
 use Rattle.wf_play.proofs.Makings.{schedule_next}
-use Rattle.wf_play.proofs.making.take_all.Goals as goal
+use Rattle.wf_play.proofs.event_makers.take_all.Goals as goal
 
 pub loop-turns-preserved : goal.loop-turns-preserved
 loop-turns-preserved g c =
