@@ -11,11 +11,12 @@ ghost use Rattle.wf_order.specs.Search.{all_counts, all_found, AreWorded, IsAnsw
 ghost use Rattle.wf_order.specs.Verdict.{HasLegal, IsBetween, IsHalved, IsLastFound, IsVerdict, enough};
 
 use crate::front::{Front, farthest_of, frames_behind, go_on};
+use crate::keys::Keys;
 use crate::object::Object;
 use crate::quiet::Quiet;
 use crate::rows::{Rows, processes_of, rows_of};
 use crate::search::{Answer, search};
-use crate::seen::{Keys, Seen};
+use crate::seen::Seen;
 use crate::step::Task;
 use ob_interface::NoMemory;
 use std::alloc::Global;

@@ -12,6 +12,7 @@ mod attempt;
 mod behind;
 pub mod find;
 mod front;
+pub mod keys;
 mod listed;
 pub mod needed;
 pub mod object;

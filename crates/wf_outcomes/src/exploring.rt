@@ -9,7 +9,7 @@ ghost use Rattle.wf_outcomes.specs.Merges.{start};
 use crate::explored::Explored;
 use crate::meetings::telling_places;
 use crate::remembered_calls::{Memory, nothing_made};
-use crate::seen::{Found, Keys, Seen, Stated, row_of_words};
+use crate::seen::{Found, Seen, Stated, row_of_words};
 use crate::step::{Task, step};
 use ob_interface::NoMemory;
 use std::alloc::Global;
@@ -19,6 +19,7 @@ use thiserror::Error;
 use wf_counts::Counts;
 use wf_history::KeptCall;
 use wf_order::Object;
+use wf_order::keys::Keys;
 
 /// Why an exploration gives up.
 #[derive(Clone, Copy, Debug, Error)]

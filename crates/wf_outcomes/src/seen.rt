@@ -1,9 +1,9 @@
 //! The configurations that an exploration has found.
 
 use indexmap::IndexSet;
-use std::hash::{BuildHasher, FoldHasher, Hasher, RandomState};
 use std::rc::Rc;
 use wf_counts::Counts;
+use wf_order::keys::Keys;
 use wf_order::object::Words;
 
 /// A state, also in words.
@@ -48,32 +48,6 @@ impl<S> Found<S> {
         ensures { result.now ≡ self.now.kept.value.state }
     {
         &self.kept.as_ref().state
-    }
-}
-
-/// Keys of the table of configurations. A fold of a word costs some instructions, where the hash of `RandomState` costs a hundred. It begins
-/// behind a word that only this run knows, so that no script can be made beforehand whose configurations collide.
-#[derive(Clone, Copy)]
-pub struct Keys {
-    first: FoldHasher,
-}
-
-impl Keys {
-    /// Keys that are drawn from these.
-    pub(crate) fn new(drawn: RandomState) -> Keys {
-        let mut first = FoldHasher::default();
-        first.write_u64(drawn.hash_one(0_u64));
-        Keys { first }
-    }
-}
-
-impl BuildHasher for Keys {
-    type Hasher = FoldHasher;
-
-    ghost build_hasher = { λ keys. keys.first };
-
-    fn build_hasher(&self) -> FoldHasher {
-        self.first
     }
 }
 

@@ -6,12 +6,12 @@ ghost use Rattle.wf_whole_outcomes.specs.Layers.{GrowsOver};
 ghost use Rattle.wf_whole_outcomes.specs.Nodes.{AreLists, AreNodes, IsArrived, IsGrown, IsNode, lists_in, spot_in, spots_in};
 
 use crate::edges::{Edge, known_edge};
-use crate::keys::Keys;
 use crate::nodes::{Layer, Lists, Node, node_on};
 use crate::search::LayersFault;
 use ob_interface::NoMemory;
 use std::alloc::Global;
 use std::hash::RandomState;
+use wf_order::keys::Keys;
 
 /// Over which edges a search goes, of how many processes, and with which keys of its tables.
 #[derive(Clone, Copy)]

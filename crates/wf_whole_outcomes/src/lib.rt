@@ -8,7 +8,6 @@
 pub mod edges;
 mod graph;
 pub mod growing;
-pub mod keys;
 pub mod leaves;
 pub mod nodes;
 pub mod search;

@@ -5,11 +5,11 @@ ghost use Rattle.wf_whole_outcomes.specs.Graph.{GoesOn, spot_on};
 ghost use Rattle.wf_whole_outcomes.specs.Nodes.{AreLists, IsNode, list_with, lists_in, spot_in};
 
 use crate::edges::Edge;
-use crate::keys::Keys;
 use indexmap::IndexSet;
 use ob_interface::NoMemory;
 use smallvec::SmallVec;
 use std::alloc::{AllocError, Global};
+use wf_order::keys::Keys;
 
 /// A list, by its number, and a reply behind it.
 #[derive(Clone, Copy, PartialEq, Eq, Hash)]

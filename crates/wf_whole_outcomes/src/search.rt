@@ -6,13 +6,13 @@ ghost use Rattle.wf_whole_outcomes.specs.Layers.{HasOver};
 ghost use Rattle.wf_whole_outcomes.specs.Nodes.{IsFirst, IsFront, first_spot, lists_in, trail_in};
 
 use crate::growing::{Came, Ground, Growing, layer_behind};
-use crate::keys::Keys;
 use crate::nodes::{Layer, Lists, Node};
 use indexmap::IndexSet;
 use ob_interface::NoMemory;
 use smallvec::SmallVec;
 use std::alloc::Global;
 use thiserror::Error;
+use wf_order::keys::Keys;
 
 /// Why a search gives up.
 #[derive(Clone, Copy, Debug, Error)]

@@ -3,7 +3,8 @@
 use std::hash::{BuildHasher, FoldHasher, Hasher, RandomState};
 
 /// Keys of a table. A fold of a word costs some instructions, where the hash of `RandomState` costs a hundred. It begins behind a word
-/// that only this run knows, so that no script can be made beforehand whose nodes collide.
+/// that only this run knows, so that no history and no script can be made beforehand whose configurations collide. What a search finds
+/// is the same by all keys.
 #[derive(Clone, Copy)]
 pub struct Keys {
     first: FoldHasher,
@@ -11,7 +12,7 @@ pub struct Keys {
 
 impl Keys {
     /// Keys that are drawn from these.
-    pub(crate) fn new(drawn: RandomState) -> Keys {
+    pub fn new(drawn: RandomState) -> Keys {
         let mut first = FoldHasher::default();
         first.write_u64(drawn.hash_one(0_u64));
         Keys { first }
@@ -23,6 +24,7 @@ impl BuildHasher for Keys {
 
     ghost build_hasher = { λ keys. keys.first };
 
+    #[inline(always)]
     fn build_hasher(&self) -> FoldHasher {
         self.first
     }
