@@ -63,6 +63,7 @@ piece_by text piece.Most = piece.Most
 piece_by text piece.MostEnd = piece.MostEnd
 piece_by text piece.Wanted = piece.Wanted
 piece_by text piece.Found = piece.Found
+piece_by text piece.Made = piece.Made
 
 -- those that the code has
 abbrev pub when_of : WhenOf (Bor (List ℕ)) (Bor (List (Bor (List ℕ)))) (Bor (List Kind)) → When
@@ -261,6 +262,7 @@ hint_by number.P3 view = first view construct_rows
 hint_by number.C1 view = option_or (first view name_rows) (first view word_rows)
 hint_by number.C3 view = first view rule_rows
 hint_by number.C4 view = first view rule_rows
+hint_by number.C7 view = first view rule_rows
 hint_by number.C10 view = first view rule_rows
 hint_by other view = None
 

@@ -10,7 +10,7 @@ use Rattle.ob_messages.specs.Shown.{shown_byte}
 use Rattle.ob_messages.specs.contracts.table.Type.{the_type}
 use Rattle.ob_messages.specs.declared.matcher.View.{View}
 use Rattle.ob_messages.specs.declared.said.Evidence.{Evidence as EvidenceOf}
-use Rattle.ob_messages.specs.declared.said.TheConstants.{TYPES}
+use Rattle.ob_messages.specs.declared.said.TheConstants.{MAKINGS, TYPES}
 use Rattle.ob_messages.specs.declared.table.PieceOf.TheVariants as piece
 use Rattle.ob_messages.specs.declared.table.Type.{«Type»}
 
@@ -26,6 +26,10 @@ type_in types named = text_or (find (λ t. sameb the_type t.0 named) types)
 -- how a type is told
 unfoldable pub type_text : «Type» → List ℕ
 type_text = type_in (map (λ t. (t.0, t.1.now)) TYPES.now)
+
+-- how a value of a type is made of one of another type
+unfoldable pub making_text : «Type» → List ℕ
+making_text = type_in (map (λ t. (t.0, t.1.now)) MAKINGS.now)
 
 -- ---- slots
 
@@ -79,6 +83,7 @@ spelled e piece.Most = decimal e.most
 spelled e piece.MostEnd = plural e.most
 spelled e piece.Wanted = type_text e.wanted
 spelled e piece.Found = type_text e.found
+spelled e piece.Made = making_text e.wanted
 
 -- ---- sentences
 

@@ -58,7 +58,7 @@ pub(crate) fn hint_of(view: &View) -> Option<&'static [Piece]>
         Number::P1 => token_hint(view),
         Number::P3 => first(construct_rows(), view),
         Number::C1 => either(first(name_rows(), view), word_hint(view)),
-        Number::C3 | Number::C4 | Number::C10 => first(rule_rows(), view),
+        Number::C3 | Number::C4 | Number::C7 | Number::C10 => first(rule_rows(), view),
         _ => None,
     }
 }

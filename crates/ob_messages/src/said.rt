@@ -45,6 +45,15 @@ pub const TYPES: &[(Type, &str)] = &[
     (Type::Unknown, "something else"),
 ];
 
+/// How a value of each type is made of one of another type.
+pub const MAKINGS: &[(Type, &str)] = &[
+    (
+        Type::Integer,
+        "a BOOLEAN gives a number by IF b THEN x := 1 ELSE x := 0 END",
+    ),
+    (Type::Boolean, "a comparison gives a BOOLEAN, as x # 0"),
+];
+
 /// The sentence of a fault: the table's, filled with what is known.
 pub fn sentence(alloc: Global, view: &View, evidence: &Evidence) -> Result<String, AllocError>
     ensures { IfOk result (λ text. string_bytes text ≡ sentence_text view.now (evidence_of evidence.now)) }
@@ -99,6 +108,7 @@ fn fill(
     Ok(())
 }
 
+#[tactic(auto, unfolding(crate::specs::Said::making_text))]
 fn push_piece(
     text: &mut String,
     alloc: Global,
@@ -123,6 +133,7 @@ fn push_piece(
         PieceOf::MostEnd => text.push_str(plural(evidence.most)),
         PieceOf::Wanted => text.push_str(type_text(evidence.wanted)),
         PieceOf::Found => text.push_str(type_text(evidence.found)),
+        PieceOf::Made => text.push_str(type_in(MAKINGS, evidence.wanted)),
     }
 }
 

@@ -1,6 +1,6 @@
 //! The sentences, of each fault the first that holds, and their ends.
 
-use crate::table::WhenOf::{Here, Is, Last, Never, Next, On};
+use crate::table::WhenOf::{Here, Is, Last, Never, Next, On, Word};
 use crate::table::{Fact, Number, Piece, PieceOf, Row};
 use ob_scan::Kind;
 
@@ -73,11 +73,11 @@ pub const LIMIT_ROWS: &[Row] = rows! {
         PieceOf::Text("a parameter with VAR takes a variable, and this is a constant");
     [On(Number::C7), Last(&[Kind::LeftParen, Kind::Comma])] => PieceOf::Text("a parameter with VAR takes a variable, and nothing else");
     [On(Number::C7), Is(Fact::Procedure)] =>
-        PieceOf::Text("this call has "), PieceOf::Count, PieceOf::Text(" actual"), PieceOf::CountEnd,
+        PieceOf::Text("this call has "), PieceOf::Count, PieceOf::Text(" argument"), PieceOf::CountEnd,
         PieceOf::Text(", and the procedure has "), PieceOf::Most, PieceOf::Text(" parameter"), PieceOf::MostEnd;
-    [On(Number::C7)] => PieceOf::Text("this call has more or fewer actuals than the procedure has parameters");
+    [On(Number::C7)] => PieceOf::Text("this call has more or fewer arguments than the procedure has parameters");
     [On(Number::C8)] => PieceOf::Text(
-        "a procedure sees its own variables and those of the module, and none of a procedure around it; hand it over as a VAR parameter",
+        "a procedure sees its own variables and those of the module, and none of a procedure around it; hand it over as a parameter, with VAR where it is changed",
     );
     [On(Number::C9), Here(&[Kind::Array, Kind::Record]), Is(Fact::Words)] =>
         PieceOf::Text("a type has at most 4096 words, and this one has "), PieceOf::Count;
@@ -133,6 +133,8 @@ pub const END_ROWS: &[Row] = rows! {
     [On(Number::P1), Is(Fact::Expected), Last(&[Kind::Ident]), Here(&[Kind::Ident]), Never(&[Kind::And])] => BEHIND, PieceOf::Name, QUOTE;
     [On(Number::P1), Is(Fact::Expected), Last(&[Kind::Ident]), Is(Fact::Foreign)] => BEHIND, PieceOf::Name, QUOTE;
     [On(Number::P1), Is(Fact::Expected), Last(&[Kind::Ident]), Is(Fact::KeywordBefore)] => BEHIND, PieceOf::Name, QUOTE;
+    [On(Number::P1), Is(Fact::Expected), Last(&[Kind::RightParen]), Never(&[Kind::And]), Is(Fact::UndeclaredCall), Word(&["RETURN"])] =>
+        PieceOf::Text(" behind RETURN (..), which is read as a call");
     [On(Number::C1), Is(Fact::Near)] => PieceOf::Text("; did you mean `"), PieceOf::Name, PieceOf::Text("`?");
     [On(Number::C3), Is(Fact::Named), Last(&[Kind::Colon, Kind::Of])] => PieceOf::Text(", and the name of a type is needed here");
     [

@@ -35,6 +35,8 @@ pub enum Fact {
     BehindMinus,
     /// A `:`, a `=` or an OF stands before it.
     TypeAwaited,
+    /// A word CASE stands before it.
+    BehindCase,
     /// Some token could stand there.
     Expected,
     /// A keyword stands there.
@@ -225,9 +227,10 @@ pub enum PieceOf<Text> {
     CountEnd,
     Most,
     MostEnd,
-    /// The type that is wanted, and the one that stands there.
+    /// The type that is wanted, and the one that stands there; how a value of the wanted type is made of one of the other type.
     Wanted,
     Found,
+    Made,
 }
 
 /// A sentence or a hint, or an end of one: it is given where all its conditions hold.

@@ -2,7 +2,7 @@
 
 use crate::table::WhenOf::{Could, Here, Is, Last, Never, Next, Not, On, Second, Sign, Word};
 use crate::table::{Fact, Number, Piece, PieceOf, Row};
-use crate::word_rows::{NO_FOR, NO_POINTER, NO_REAL, NO_SHIFT};
+use crate::word_rows::{IN_CAPITALS, NO_FOR, NO_POINTER, NO_REAL, NO_SHIFT};
 use ob_scan::Kind;
 
 /// A table: in each row conditions, and what is said.
@@ -56,6 +56,10 @@ const COMPARISON: &[Piece] = &[PieceOf::Text(
     "a comparison beside another one, or beside & or OR, stands in parentheses: (a > 0) & (b < 5)",
 )];
 
+const CONDITION: &[Piece] = &[PieceOf::Text(
+    "a BOOLEAN is a condition by itself, as in IF b THEN and in IF ~b THEN",
+)];
+
 const LEADER: &[Piece] = &[PieceOf::Text(
     "behind the condition of IF and ELSIF stands THEN, behind that of WHILE stands DO",
 )];
@@ -95,7 +99,7 @@ const NO_BEGIN: &[Piece] = &[PieceOf::Text(
 )];
 
 const ACTUALS: &[Piece] = &[PieceOf::Text(
-    "the actuals of a call stand in parentheses, as P(a, 1)",
+    "the arguments of a call stand in parentheses, as P(a, 1)",
 )];
 
 const POINTER: &[Piece] = &[PieceOf::Text(NO_POINTER)];
@@ -269,7 +273,7 @@ pub const SEPARATOR_ROWS: &[Row] = rows! {
     [Here(&[Kind::Comma]), Could(&[Kind::Semicolon, Kind::And])] =>
         &[PieceOf::Text("behind a constant stands ;, and then the next one: a = 1; b = 2")];
     [Here(&[Kind::Semicolon]), Could(&[Kind::RightParen, Kind::Comma]), Is(Fact::ClosedBehind)] =>
-        &[PieceOf::Text("the actuals of a call are separated by commas, as P(a, 1)")];
+        &[PieceOf::Text("the arguments of a call are separated by commas, as P(a, 1)")];
     [Here(&[Kind::And, Kind::Var]), Last(&[Kind::LeftParen, Kind::Comma]), Could(&[Kind::Number])] => HANDED;
     [Sign("*)")] => NO_COMMENT;
     [Here(&[Kind::RightParen]), Last(&[Kind::Times]), Is(Fact::Touching)] => NO_COMMENT;
@@ -322,7 +326,7 @@ pub const TYPE_TOKEN_ROWS: &[Row] = rows! {
     [Here(&[Kind::Dot]), Last(&[Kind::Dot]), Is(Fact::Touching), Is(Fact::Expected)] => RANGE;
     [Here(&[Kind::Colon]), Could(&[Kind::RightBracket])] => RANGE;
     [Here(&[Kind::Equal, Kind::Assign]), Is(Fact::InParens), Last(&[Kind::Ident]), Second(&[Kind::Colon])] =>
-        &[PieceOf::Text("a parameter has no value of its own; each call has an actual for each parameter")];
+        &[PieceOf::Text("a parameter has no value of its own; each call has an argument for each parameter")];
 };
 
 /// Tokens in declarations and behind them, and actuals without parentheses.
@@ -356,6 +360,7 @@ pub const DECLARATION_ROWS: &[Row] = rows! {
     [Here(&[Kind::Times]), Could(&[Kind::Equal]), Never(&[Kind::Less])] => NO_EXPORT;
     [Here(&[Kind::Semicolon]), Next(&[Kind::Ident]), Could(&[Kind::Colon])] => NO_LIST;
     [Here(&[Kind::Semicolon, Kind::RightParen, Kind::Array, Kind::Record]), Could(&[Kind::Colon])] => NO_TYPE;
+    [Here(&[Kind::Ident]), Could(&[Kind::Of]), Sign("of"), Word(&["OF"])] => &[PieceOf::Text(IN_CAPITALS)];
     [Here(&[Kind::Ident, Kind::Array, Kind::Record]), Could(&[Kind::Of])] => ARRAY_TYPE;
     [Here(&[Kind::Ident]), Could(&[Kind::Colon]), Is(Fact::TypeBefore)] =>
         &[PieceOf::Text("a name stands before its type: x: INTEGER")];
@@ -387,7 +392,8 @@ pub const DECLARATION_ROWS: &[Row] = rows! {
     ] => ACTUALS;
 };
 
-/// Of a rule that is broken: a procedure in an expression, operators on comparisons, and parameters of exports.
+/// Of a rule that is broken: a procedure in an expression, operators on comparisons, values of the other type, and parameters of exports and
+/// with VAR.
 pub const RULE_ROWS: &[Row] = rows! {
     [On(Number::C10), Not(Fact::InProcedure)] => &[PieceOf::Text(
         "keep the array or record in a variable of the module, and hand over single values, as in PROCEDURE Set*(i, value: INTEGER)",
@@ -416,4 +422,12 @@ pub const RULE_ROWS: &[Row] = rows! {
     [On(Number::C4), Here(&[Kind::And]), Is(Fact::WrongBefore)] => NO_BITS;
     [On(Number::C4), Last(&[Kind::If, Kind::Elsif, Kind::While, Kind::Until]), Is(Fact::OtherSingle)] =>
         &[PieceOf::Text("a number is no condition; write a comparison, as x # 0")];
+    [
+        On(Number::C4), Last(&[Kind::Assign]), Here(&[Kind::Number]), Is(Fact::OtherSingle),
+        Next(&[Kind::Semicolon, Kind::End, Kind::Elsif, Kind::Else, Kind::Until])
+    ] => &[PieceOf::Text("a BOOLEAN is TRUE or FALSE")];
+    [On(Number::C4), Last(&[Kind::Assign]), Is(Fact::OtherSingle)] => &[PieceOf::Made];
+    [On(Number::C4), Is(Fact::BooleanFirst)] => CONDITION;
+    [On(Number::C4), Is(Fact::IntegerFirst)] => CONDITION;
+    [On(Number::C7), Last(&[Kind::LeftParen, Kind::Comma])] => &[PieceOf::Text("put the value into a variable first, and hand that over")];
 };

@@ -1,7 +1,7 @@
 //! Hints on bytes that begin no token, and on words of other languages.
 
-use crate::table::WhenOf::{Could, Here, Is, Last, Next, Second, Sign, Word};
-use crate::table::{Fact, PieceOf, Row};
+use crate::table::WhenOf::{Could, Here, Is, Last, Never, Next, Not, On, Second, Sign, Word};
+use crate::table::{Fact, Number, PieceOf, Row};
 use ob_scan::Kind;
 
 /// A table: in each row conditions, and what is said.
@@ -20,7 +20,18 @@ pub const NO_SHIFT: &str =
     "there are no shifts; a number is doubled by x * 2, and halved by x DIV 2";
 
 /// On loops that count.
-pub const NO_FOR: &str = "there is no FOR; count in a WHILE or a REPEAT";
+pub const NO_FOR: &str =
+    "there is no FOR; count in a WHILE: i := 0; WHILE i < n DO ..; i := i + 1 END";
+
+/// On keywords in small letters.
+pub const IN_CAPITALS: &str = "keywords are written in capitals";
+
+/// The same, where the keyword begins declarations and can't stand there in capitals either.
+const ORDER_IN_CAPITALS: &str =
+    "keywords are written in capitals, and declarations stand before BEGIN, in this order, each word once: CONST, TYPE, VAR, and then procedures";
+
+/// On choices among several cases.
+const NO_CASE: &str = "there is no CASE; write IF k = 1 THEN .. ELSIF k = 2 THEN .. END";
 
 /// On pointers.
 pub const NO_POINTER: &str =
@@ -75,6 +86,7 @@ pub const BYTE_ROWS: &[Row] = rows! {
     [Sign("/*")] => COMMENT;
     [Sign("/")] => "a quotient is written with DIV";
     [Sign("||")] => "or is written OR";
+    [Sign("|"), Is(Fact::BehindCase)] => NO_CASE;
     [Sign("|")] => "of two BOOLEANs or is written OR; there are no operations on the bits of a number, and there is no CASE";
     [Sign("%")] => "a remainder is written with MOD";
     [Sign("?")] => "there is no ? :; write IF, and an assignment behind THEN and behind ELSE";
@@ -83,6 +95,7 @@ pub const BYTE_ROWS: &[Row] = rows! {
     [Sign("\u{feff}")] => "a byte order mark stands there, which no editor shows; save the file without it";
     [Is(Fact::NotAscii)] => "outside comments all is ASCII: no letters with accents, no typographic quotes or dashes, no special blanks";
     [Sign("2147483648"), Is(Fact::BehindMinus)] => "the smallest INTEGER is written -2147483647 - 1";
+    [On(Number::S2)] => "count in a larger unit, as in thousands, or in two INTEGERs";
 };
 
 /// The keywords. A name that is one but for small letters is meant to be it.
@@ -113,7 +126,7 @@ const KEYWORDS: &[&str] = &[
 /// Words that other languages have.
 pub const WORD_ROWS: &[Row] = rows! {
     [Word(&["FOR"])] => NO_FOR;
-    [Word(&["CASE"])] => "there is no CASE; write IF with ELSIF";
+    [Word(&["CASE"])] => NO_CASE;
     [Word(&["RETURN"])] => "there is no RETURN; a procedure gives values by its VAR parameters";
     [Word(&["IMPORT"])] => "there is no IMPORT; a module stands alone";
     [Word(&["EXIT"])] => "there is no EXIT; a loop ends by its condition";
@@ -127,15 +140,23 @@ pub const WORD_ROWS: &[Row] = rows! {
     [Word(&["CONTINUE"])] => "there is no CONTINUE; put what is left of the turn into an IF";
     [Word(&["FUNCTION"])] => "there are no functions; a procedure gives its results by VAR parameters";
     [Word(&["WITH"])] => "there is no WITH; each field is written behind its record, as r.f";
-    [Word(&["SWITCH"])] => "there is no SWITCH; write IF with ELSIF";
-    [Word(&["FOREACH"])] => "there is no FOREACH; count in a WHILE or a REPEAT";
+    [Word(&["SWITCH"])] => "there is no SWITCH; write IF k = 1 THEN .. ELSIF k = 2 THEN .. END";
+    [Word(&["FOREACH"])] => "there is no FOREACH; count in a WHILE: i := 0; WHILE i < n DO ..; i := i + 1 END";
     [Word(&["SHL", "SHR"])] => NO_SHIFT;
     [Word(&["GOTO"])] => "there is no GOTO; use IF, WHILE, REPEAT or a call";
-    [Word(KEYWORDS)] => "keywords are written in capitals";
+    [Word(KEYWORDS)] => IN_CAPITALS;
 };
 
 /// Words that other languages have, where it is the tokens around them that tell.
 pub const PLACED_WORD_ROWS: &[Row] = rows! {
+    [Word(&["CONST", "TYPE", "VAR"]), Here(&[Kind::Ident]), Last(&[Kind::Ident]), Second(&[Kind::Semicolon]), Could(&[Kind::Colon]), Not(Fact::InParens)] =>
+        ORDER_IN_CAPITALS;
+    [Word(&["CONST"]), Here(&[Kind::Ident]), Last(&[Kind::Ident]), Second(&[Kind::Semicolon]), Could(&[Kind::Equal]), Never(&[Kind::Less])] =>
+        ORDER_IN_CAPITALS;
+    [Word(&["CONST", "TYPE", "VAR"]), Here(&[Kind::Ident]), Last(&[Kind::Ident]), Could(&[Kind::Assign])] => ORDER_IN_CAPITALS;
+    [Word(&["CONST"]), Here(&[Kind::Ident]), Could(&[Kind::Procedure]), Never(&[Kind::Const])] => ORDER_IN_CAPITALS;
+    [Word(&["TYPE"]), Here(&[Kind::Ident]), Could(&[Kind::Procedure]), Never(&[Kind::Type])] => ORDER_IN_CAPITALS;
+    [Word(&["VAR"]), Here(&[Kind::Ident]), Could(&[Kind::Procedure]), Never(&[Kind::Var])] => ORDER_IN_CAPITALS;
     [Word(&["OD", "WEND", "ENDWHILE"]), Could(&[Kind::End])] => "a WHILE ends with END";
     [Word(&["FI"]), Could(&[Kind::End])] => "an IF ends with END";
     [Word(&["USE", "USING", "FROM", "INCLUDE", "REQUIRE", "PACKAGE"]), Could(&[Kind::Const])] => "there is no IMPORT; a module stands alone";
