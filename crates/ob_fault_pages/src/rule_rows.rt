@@ -175,6 +175,7 @@ one that is needed here`.
     C4 at 37
     the expression that begins here is a BOOLEAN, and the variable before it is
       an INTEGER
+    hint: a BOOLEAN gives a number by IF b THEN x := 1 ELSE x := 0 END
   MODULE M; VAR x: INTEGER; BEGIN x := x + TRUE END M.
     C4 at 39
     this operator takes INTEGERs, and what stands behind it is a BOOLEAN
@@ -190,6 +191,7 @@ one that is needed here`.
     C4 at 39
     this compares two INTEGERs or two BOOLEANs, and before it stands a BOOLEAN,
       behind it an INTEGER
+    hint: a BOOLEAN is a condition by itself, as in IF b THEN and in IF ~b THEN
   MODULE M; VAR x: INTEGER; BEGIN x := -TRUE END M.
     C4 at 37
     a sign takes an INTEGER, and what stands behind it is a BOOLEAN
@@ -281,20 +283,23 @@ variable, whether a variable begins it or it is a constant, by the name there.
 
   MODULE M; PROCEDURE P(x: INTEGER); END P; BEGIN P END M.
     C7 at 48
-    this call has 0 actuals, and the procedure has 1 parameter
+    this call has 0 arguments, and the procedure has 1 parameter
   MODULE M; PROCEDURE P(x: INTEGER); END P; BEGIN P(1, 2) END M.
     C7 at 48
-    this call has 2 actuals, and the procedure has 1 parameter
+    this call has 2 arguments, and the procedure has 1 parameter
   MODULE M; VAR b: INTEGER; PROCEDURE P(VAR x: INTEGER); END P; BEGIN P(b + 1) END M.
     C7 at 70
     a parameter with VAR takes a variable alone, and this one begins an
       expression
+    hint: put the value into a variable first, and hand that over
   MODULE M; CONST c = 1; PROCEDURE P(VAR x: INTEGER); END P; BEGIN P(c) END M.
     C7 at 67
     a parameter with VAR takes a variable, and this is a constant
+    hint: put the value into a variable first, and hand that over
   MODULE M; PROCEDURE P(VAR x: INTEGER); END P; BEGIN P(1) END M.
     C7 at 54
     a parameter with VAR takes a variable, and nothing else
+    hint: put the value into a variable first, and hand that over
 
 All commands tell C1 to C10, the first in the text.
 
@@ -305,10 +310,12 @@ Shown in its text by `obl0 explain a.mod`.
         name: "C8",
         text: "\
 C8: a variable of a procedure around this one. A procedure sees its own
-variables and those of the module. Hand the variable over as a VAR parameter.
+variables and those of the module. Hand the variable over as a parameter, with
+VAR where it is changed.
 
 Explained as `a procedure sees its own variables and those of the module, and
-none of a procedure around it; hand it over as a VAR parameter`.
+none of a procedure around it; hand it over as a parameter, with VAR where it
+is changed`.
 
   MODULE M; PROCEDURE P; VAR a: INTEGER; PROCEDURE Q; BEGIN a := 1 END Q; END P; END M.
     C8 at 58

@@ -67,6 +67,7 @@ Explained as `a number is at most 2147483647`.
 
   MODULE M; VAR x: INTEGER; BEGIN x := 2147483648 END M.
     S2 at 37
+    hint: count in a larger unit, as in thousands, or in two INTEGERs
   MODULE M; VAR x: INTEGER; BEGIN x := -2147483648 END M.
     S2 at 38
     hint: the smallest INTEGER is written -2147483647 - 1
