@@ -1,5 +1,6 @@
 -- The construct that is open at a place, and the ELSE IF in it: by the tokens before the place, which go back from there.
-use Rattle.std.specs.Prelude.{ℕ, suc, ◌-◌, ◌==◌, ◌&&◌, nat_lt, Bool, true, false, List, [], ◌∷◌, Option, Some, None, if◌then◌else◌}
+use Rattle.std.specs.Prelude.{◌≡◌, ℕ, ◌&&◌, nat_lt, Bool, true, false, List, [], ◌∷◌, ◌++◌, take, Option, Some, None, if◌then◌else◌}
+use Rattle.std.specs.List.{slice_get}
 use Rattle.ob_scan.specs.declared.token.Kind.{Kind}
 use Rattle.ob_scan.specs.declared.token.Kind.TheVariants.{Module, Procedure, Record, If, While, Repeat, End, Until, Else}
 use Rattle.ob_scan.specs.declared.token.Token.{Token}
@@ -27,29 +28,34 @@ is_unit Module = true
 is_unit Procedure = true
 is_unit _ = false
 
--- a token opens a construct that is not closed before the place, where of those that begin before it or there so many are
-abbrev pub is_open : Kind → (closed : ℕ) → Bool
-is_open kind closed = begins_construct kind && (closed == 0)
+-- Whole constructs and other tokens, by tokens that go back: each construct that begins among them ends among them, and no other one ends.
+pub data AreWhole : List Token → Type 0 where
+  none : AreWhole []
+  other : (t : Token) {before : List Token} →
+      begins_construct t.kind ≡ false → ends_construct t.kind ≡ false → AreWhole before → AreWhole (t ∷ before)
+  construct : (end opening : Token) {inside before : List Token} →
+      ends_construct end.kind ≡ true → AreWhole inside → begins_construct opening.kind ≡ true → AreWhole before →
+      AreWhole (end ∷ inside ++ opening ∷ before)
 
--- how many constructs that are closed before the place begin before a token, where so many begin before the one behind it
-abbrev pub closed_from : Kind → (closed : ℕ) → ℕ
-closed_from kind closed =
-    if ends_construct kind then suc closed
-    else if begins_construct kind then (closed - 1)
-    else closed
+-- The token at a position, counted back from the place, opens the construct that is open there: a construct begins with it, and up to the
+-- place only whole ones stand behind it.
+pub record IsOpenedAt (tokens : List Token) (position : ℕ) (opening : Token) : Type 0 where
+  pub stands : slice_get tokens position ≡ Some opening
+  pub begins : begins_construct opening.kind ≡ true
+  pub whole : AreWhole (take position tokens)
 
--- the last token before the place that opens a construct which is not closed before it
-unfoldable pub open_construct : (closed : ℕ) → List Token → Option Token
-open_construct closed [] = None
-open_construct closed (t ∷ rest) = if is_open t.kind closed then Some t else open_construct (closed_from t.kind closed) rest
+-- the token that opens the construct that is open at the place; none where there is no such token
+abbrev pub IsOpenConstruct : (before : List Token) → Option Token → Type 0
+IsOpenConstruct before None = (position : ℕ) (t : Token) → IsOpenedAt before position t → ⊥
+IsOpenConstruct before (Some t) = (position : ℕ) × IsOpenedAt before position t
 
 abbrev pub is_record_there : Option Token → Bool
 is_record_there None = false
 is_record_there (Some t) = is_record t.kind
 
--- a place stands in a record where the construct that is open there is one
-abbrev pub is_in_record : List Token → Bool
-is_in_record tokens = is_record_there (open_construct 0 tokens)
+-- whether a place stands in a record: the construct that is open there is one
+abbrev pub IsInRecord : (before : List Token) → Bool → Type 0
+IsInRecord before is = (opening : Option Token) × IsOpenConstruct before opening × (is ≡ is_record_there opening)
 
 abbrev pub is_else : Kind → Bool
 is_else Else = true

@@ -1,56 +1,38 @@
 //! The construct that is open at a place, and the ELSE IF in it.
 
-ghost use Rattle.std.specs.Prelude.{◌≡◌, ◌≤◌, ◌<◌, ◌+◌, ◌^◌, None};
-ghost use Rattle.ob_explain_tokens.specs.Open.{begins_construct, closed_from, else_if, ends_construct, is_before, is_else_if, is_if_there};
-ghost use Rattle.ob_explain_tokens.specs.Open.{is_in_record, is_open, is_unit, open_construct};
+ghost use Rattle.std.specs.Prelude.{◌≡◌, None};
+ghost use Rattle.ob_explain_tokens.specs.Open.{IsInRecord, IsOpenConstruct, begins_construct, else_if, ends_construct, is_before, is_else_if};
+ghost use Rattle.ob_explain_tokens.specs.Open.{is_if_there, is_unit};
 
 use crate::kinds::is_record;
 use ob_scan::{Kind, Token};
 
 /// The token that opens the construct that is open at a place: these tokens stand before it and go back from there.
-#[tactic(auto, using(crate::proofs::OpenSteps::open_here, crate::proofs::OpenSteps::goes_on, crate::proofs::OpenSteps::none_open))]
+#[tactic(auto, using(crate::proofs::OpenSteps::open_here, crate::proofs::OpenSteps::none_open))]
 pub fn open_construct(tokens: &[Token]) -> Option<Token>
-    ensures { result ≡ open_construct 0 tokens.now }
+    ensures { IsOpenConstruct tokens.now result }
 {
-    let mut closed = 0;
+    let mut closed: usize = 0;
     for token in tokens {
-        if is_open(token.kind, closed) {
-            return Some(*token);
+        if ends_construct(token.kind) {
+            closed += 1;
+        } else if begins_construct(token.kind) {
+            if closed == 0 {
+                return Some(*token);
+            }
+            closed -= 1;
         }
-        closed = closed_from(token.kind, closed);
     }
     None
 }
 
 /// Whether a place stands in a record: these tokens stand before it and go back from there.
 pub fn is_in_record(tokens: &[Token]) -> bool
-    ensures { result ≡ is_in_record tokens.now }
+    ensures { IsInRecord tokens.now result }
 {
     match open_construct(tokens) {
         Some(opening) => is_record(opening.kind),
         None => false,
-    }
-}
-
-/// Whether a token opens a construct that is open, where so many of those that begin before it or there are closed.
-pub fn is_open(kind: Kind, closed: usize) -> bool
-    ensures { result ≡ is_open kind closed }
-{
-    begins_construct(kind) && closed == 0
-}
-
-/// How many constructs that are closed begin before a token, where it is so many behind it.
-pub fn closed_from(kind: Kind, closed: usize) -> usize
-    requires { closed < 2 ^ 63 }
-    ensures count { result ≡ closed_from kind closed }
-    ensures most { result ≤ closed + 1 }
-{
-    if ends_construct(kind) {
-        closed + 1
-    } else if begins_construct(kind) {
-        closed.saturating_sub(1)
-    } else {
-        closed
     }
 }
 

@@ -1,11 +1,6 @@
--- What is left of the tokens tells what is open, and there are not more that are closed than tokens so far.
-use Rattle.std.proofs.Common.{◌≡◌, ◌≤◌, drop}
-use Rattle.ob_explain_tokens.specs.Open.{open_construct}
+-- Among the tokens so far none opens a construct that is open at the place, and so many end that begin before them.
+use Rattle.ob_explain_tokens.proofs.OpenSteps.{Looked}
 use Rattle.ob_explain_tokens.proofs.open.open_construct.Given as goal
 
 abbrev pub invariant-loop-token : goal.invariant-loop-token
-invariant-loop-token l =
-    record {
-      left : open_construct l.closed (drop l.token-index l.tokens) ≡ open_construct 0 l.tokens;
-      few : l.closed ≤ l.token-index;
-    }
+invariant-loop-token l = Looked l.closed l.token-index l.tokens
