@@ -1,7 +1,7 @@
 -- Constructs that are shown beside a place.
 use Rattle.std.specs.Prelude.{◌≡◌, ◌⊎◌, List, Option, Some, None}
 use Rattle.ob_scan.specs.declared.token.Token.{Token}
-use Rattle.ob_explain_tokens.specs.Open.{else_if, open_construct}
+use Rattle.ob_explain_tokens.specs.Open.{IsOpenConstruct, else_if}
 use Rattle.ob_evidence.specs.Sites.{Scene, rest_of}
 use Rattle.ob_evidence.specs.declared.constructs.Shown.{Shown}
 
@@ -14,7 +14,7 @@ IsInner before opening (Some inner) = else_if opening.start None before ≡ Some
 abbrev pub IsOpen : (before : List Token) → (opening inner : Option Token) → Type 0
 IsOpen before None None = Unit {0}
 IsOpen before None (Some inner) = ⊥
-IsOpen before (Some opening) inner = (open_construct 0 before ≡ Some opening) × IsInner before opening inner
+IsOpen before (Some opening) inner = IsOpenConstruct before (Some opening) × IsInner before opening inner
 
 -- the construct that is open at the place, or the one that the END before the place closes
 abbrev pub IsShown : Scene → (opening inner : Option Token) → Type 0

@@ -6,7 +6,7 @@ use Rattle.ob_scan.specs.declared.token.Token.{Token}
 use Rattle.ob_explain_words.specs.Distance.{bytes_of}
 use Rattle.ob_explain_names.specs.Declarations.{is_there}
 use Rattle.ob_explain_tokens.specs.Actuals.{actual_count}
-use Rattle.ob_explain_tokens.specs.Open.{is_in_record, open_construct}
+use Rattle.ob_explain_tokens.specs.Open.{IsInRecord, IsOpenConstruct}
 use Rattle.ob_explain_tokens.specs.Parens.{is_in_parens}
 use Rattle.ob_messages.specs.Said.{Evidence}
 use Rattle.ob_messages.specs.declared.table.Fact.{Fact}
@@ -61,8 +61,10 @@ pub record IsUnknownName (s : Scene) (facts : List Fact) (e : Evidence) : Type 0
 
 -- C2: the line is that of the declaration before.
 pub record IsDeclaredTwice (s : Scene) (facts : List Fact) (e : Evidence) : Type 0 where
+  pub in_record : Bool
+  pub within : IsInRecord s.before in_record
   pub line : e.line ≡ declared_line s.text (declared s)
-  pub noted : facts ≡ facts_in ((is_in_record s.before, Facts.InRecord) ∷ (is_there (declared s), Facts.Before) ∷ [])
+  pub noted : facts ≡ facts_in ((in_record, Facts.InRecord) ∷ (is_there (declared s), Facts.Before) ∷ [])
 
 -- C3: what a name stands for is what it is declared as; a whole array or a whole record before the place is what stands there.
 abbrev pub IsOtherSort : Scene → List Fact → Type 0
@@ -100,8 +102,10 @@ pub record IsBeyondLimit (s : Scene) (facts : List Fact) (e : Evidence) : Type 0
       ∷ (are_told (words_there s), Facts.Words) ∷ [])
 
 -- C10: the PROCEDURE before the name stands within another procedure, or not.
-abbrev pub IsNoExport : Scene → List Fact → Type 0
-IsNoExport s facts = facts ≡ facts_in ((is_kind (open_construct 0 (rest_of s.before)) Kinds.Procedure, Facts.InProcedure) ∷ [])
+pub record IsNoExport (s : Scene) (facts : List Fact) : Type 0 where
+  pub outside : Option Token
+  pub around : IsOpenConstruct (rest_of s.before) outside
+  pub noted : facts ≡ facts_in ((is_kind outside Kinds.Procedure, Facts.InProcedure) ∷ [])
 
 -- What is known of a fault of this number is true of the module. S1 to S5, P2 and C8 have no slots.
 abbrev pub IsTrueOf : Number → Scene → List Fact → Evidence → Type 0

@@ -1,13 +1,13 @@
 //! The constructs that are open at a place, and what an END before it closes.
 
 ghost use Rattle.std.specs.Prelude.{◌≡◌, None, Some};
-ghost use Rattle.ob_explain_tokens.specs.Open.{open_construct};
+ghost use Rattle.ob_explain_tokens.specs.Open.{IsOpenConstruct};
 ghost use Rattle.ob_evidence.specs.Constructs.{AreOpen, AreShown, IsInner, IsOpen, inner_of, opening_of};
 ghost use Rattle.ob_evidence.specs.Sites.{rest_of, scene_of};
 
 use crate::site::{Site, is_kind, kind_of, rest_of};
 use ob_explain_tokens::actuals::ends_call;
-use ob_explain_tokens::open::{closed_from, else_if, is_open, is_unit, open_construct};
+use ob_explain_tokens::open::{else_if, is_unit, open_construct};
 use ob_messages::table::Fact;
 use ob_scan::{Kind, Token};
 
@@ -52,7 +52,7 @@ fn of_end(site: &Site<'_, '_>, before: &[Token]) -> Option<Shown>
 
 /// What the END shows that closes what this token opens, behind these tokens.
 fn of_closed(site: &Site<'_, '_>, before: &[Token], opening: Token) -> Option<Shown>
-    requires { open_construct 0 before.now ≡ Some opening }
+    requires { IsOpenConstruct before.now (Some opening) }
     ensures { AreOpen before.now result }
 {
     if is_unit(opening.kind) {
@@ -118,7 +118,7 @@ fn begins_type(site: &Site<'_, '_>) -> bool {
 
 /// What the construct shows that this token opens.
 fn of_opening(site: &Site<'_, '_>, opening: Token) -> Option<Shown>
-    requires { open_construct 0 site.now.before.now ≡ Some opening }
+    requires { IsOpenConstruct site.now.before.now (Some opening) }
     ensures { AreOpen site.now.before.now result }
 {
     if is_outside(opening.kind, kind_of(site.here())) {
@@ -177,16 +177,28 @@ pub fn inner_of(shown: Option<Shown>) -> Option<Token>
 /// Whether the name at a place is that of a module or procedure that is open behind tokens that go back.
 fn is_open_name(site: &Site<'_, '_>, before: &[Token]) -> bool {
     let word = site.word();
-    let mut closed: usize = 0;
-    let mut behind: Option<Token> = None;
-    for token in before {
-        if is_open(token.kind, closed) && is_unit(token.kind) && site.word_of(behind) == word {
+    let mut around = before;
+    for _ in 0..before.len() {
+        let Some(opening) = open_construct(around) else {
+            return false;
+        };
+        let (behind, from) = parted_at(before, opening);
+        if is_unit(opening.kind) && site.word_of(behind.last().copied()) == word {
             return true;
         }
-        closed = closed_from(token.kind, closed);
-        behind = Some(*token);
+        around = rest_of(from);
     }
     false
+}
+
+/// Tokens up to one of them, and those from this one on.
+fn parted_at(tokens: &[Token], token: Token) -> (&[Token], &[Token]) {
+    let place = token.start;
+    let count = tokens
+        .iter()
+        .take_while(|other| other.start != place)
+        .count();
+    tokens.split_at(count.min(tokens.len()))
 }
 
 /// Whether the last of these tokens that ends statements is an UNTIL.
