@@ -1,5 +1,5 @@
 -- What each fault of a module says to people.
-use Rattle.std.specs.Prelude.{◌≡◌, ◌⊎◌, ℕ, false, List, [], drop, Option, Some, None}
+use Rattle.std.specs.Prelude.{◌≡◌, ◌⊎◌, ℕ, List, [], drop, Option, Some, None}
 use Rattle.ob_scan.specs.declared.fault.ScanFault.{ScanFault}
 use Rattle.ob_scan.specs.declared.fault.ScanFault.TheVariants as Scan
 use Rattle.ob_scan.specs.Limits.{longest_text}
@@ -11,7 +11,7 @@ use Rattle.ob_typing.specs.declared.rule.Rule.{Rule}
 use Rattle.ob_typing.specs.declared.rule.Rule.TheVariants as Rules
 use Rattle.ob_evidence.specs.Evidence.{IsTrueOf}
 use Rattle.ob_evidence.specs.Sites.{IsScene, Scene, here, kind_of, last, next, second}
-use Rattle.ob_explain_words.specs.Declaring.{declares}
+use Rattle.ob_explain_words.specs.Declaring.{Declares}
 use Rattle.ob_messages.specs.Places.{shown_place}
 use Rattle.ob_messages.specs.Remarks.{Remark}
 use Rattle.ob_messages.specs.Said.{Evidence, hint_text, sentence_text}
@@ -26,7 +26,7 @@ shown_at other text place = place
 
 -- a word is no name that the text declares
 abbrev pub IsUndeclared : Scene → (word : List ℕ) → Type 0
-IsUndeclared s word = (word ≡ []) ⊎ (declares s.text s.tokens word ≡ false)
+IsUndeclared s word = (word ≡ []) ⊎ ¬ Declares s.text s.tokens word
 
 -- What may be seen at a place: the tokens around it, its bytes, and what could stand there. The words that are looked for among those of
 -- other languages and among keywords in small letters are no names that the text declares.

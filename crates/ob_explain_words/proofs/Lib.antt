@@ -1,3 +1,4 @@
+pub mod Declared
 pub mod Lists
 pub mod Needed
 pub mod Steps

@@ -1,92 +1,101 @@
 -- Which names a text declares, whether it is a module or not: by its tokens alone.
-use Rattle.std.specs.Prelude.{ℕ, ◌&&◌, ◌||◌, not, Bool, true, false, List, [], ◌∷◌, Option, None, Some, bytes_eq, find}
-use Rattle.std.specs.List.{list_any}
+use Rattle.std.specs.Prelude.{◌≡◌, ◌↔◌, ℕ, IsTrue, Bool, true, false, List, [], ◌∷◌, ◌++◌, Option, None, Some, find, reverse}
 use Rattle.ob_scan.specs.declared.token.Kind.{Kind}
 use Rattle.ob_scan.specs.declared.token.Kind.TheVariants as Kinds
 use Rattle.ob_scan.specs.declared.token.Token.{Token}
 use Rattle.ob_explain_names.specs.Declarations.{token_bytes}
 use Rattle.ob_explain_tokens.specs.Kinds.{is_colon, is_comma, is_name}
-use Rattle.ob_explain_words.specs.declared.declaring.Part.{Part}
-use Rattle.ob_explain_words.specs.declared.declaring.Part.TheVariants.{Outside, Heading, Begins, Within}
 
--- ---- the places of names
+-- ---- what stands before a name
 
--- a `;` ends the declaration of a constant or of a type, and another one begins behind it
-abbrev pub behind_semicolon : Part → Part
-behind_semicolon Begins = Begins
-behind_semicolon Within = Begins
-behind_semicolon _ = Outside
+-- CONST and TYPE lead declarations of constants and types; VAR, PROCEDURE and BEGIN lead something else
+abbrev pub leads : Kind → Bool
+leads Kinds.Const = true
+leads Kinds.«Type» = true
+leads Kinds.Var = true
+leads Kinds.Procedure = true
+leads Kinds.Begin = true
+leads _ = false
 
-abbrev pub further_on : Part → Part
-further_on Begins = Within
-further_on Within = Within
-further_on _ = Outside
+abbrev pub leads_there : Token → Bool
+leads_there t = leads t.kind
 
--- What stands behind a token: CONST and TYPE begin declarations, and VAR, PROCEDURE and BEGIN stand behind them; a procedure's name stands
--- behind PROCEDURE.
-abbrev pub part_behind : Part → Kind → Part
-part_behind part Kinds.Const = Begins
-part_behind part Kinds.«Type» = Begins
-part_behind part Kinds.Procedure = Heading
-part_behind part Kinds.Var = Outside
-part_behind part Kinds.Begin = Outside
-part_behind part Kinds.Semicolon = behind_semicolon part
-part_behind part _ = further_on part
+abbrev pub leads_equations : Kind → Bool
+leads_equations Kinds.Const = true
+leads_equations Kinds.«Type» = true
+leads_equations _ = false
 
--- a token, as what it stands in a text, with the tokens from it on
-pub record Place : Type 0 where
-  pub part : Part
-  pub token : Token
-  pub tokens : List Token
+abbrev pub are_equations : (leader : Option Token) → Bool
+are_equations None = false
+are_equations (Some t) = leads_equations t.kind
 
-abbrev pub places : Part → List Token → List Place
-places part [] = []
-places part (t ∷ rest) = record { part = part; token = t; tokens = t ∷ rest } ∷ places (part_behind part t.kind) rest
+-- constants and types are declared behind tokens that go back, where CONST or TYPE is the last one that leads something
+abbrev pub is_in_equations : (before : List Token) → Bool
+is_in_equations before = are_equations (find leads_there before)
+
+-- the kind of the last of them
+abbrev pub last_kind : (before : List Token) → Option Kind
+last_kind [] = None
+last_kind (t ∷ rest) = Some t.kind
+
+abbrev pub is_procedure : Option Kind → Bool
+is_procedure (Some Kinds.Procedure) = true
+is_procedure _ = false
+
+-- one of these declarations begins behind CONST, TYPE and `;`
+abbrev pub leads_one : Option Kind → Bool
+leads_one (Some Kinds.Const) = true
+leads_one (Some Kinds.«Type») = true
+leads_one (Some Kinds.Semicolon) = true
+leads_one _ = false
 
 -- ---- lists of names
 
--- tokens two by two
-abbrev pub pairs : List Token → List (Token × Token)
-pairs (t ∷ u ∷ rest) = (t, u) ∷ pairs rest
-pairs _ = []
-
--- a name, and a comma behind it
-abbrev pub goes_on : Token × Token → Bool
-goes_on pair = is_name pair.0.kind && is_comma pair.1.kind
-
--- a name, and a `:` behind it
-abbrev pub ends : Option (Token × Token) → Bool
-ends None = false
-ends (Some pair) = is_name pair.0.kind && is_colon pair.1.kind
-
--- Names, separated by commas, and a `:`: of names with what stands behind them, the first that has no comma there has a `:`.
-abbrev pub is_listed : List Token → Bool
-is_listed tokens = ends (find (λ pair. not (goes_on pair)) (pairs tokens))
+-- name {"," name} ":"
+pub data IsListed : List Token → Type 0 where
+  ends : (name colon : Token) {rest : List Token} → is_name name.kind ≡ true → is_colon colon.kind ≡ true → IsListed (name ∷ colon ∷ rest)
+  goes_on : (name comma : Token) {rest : List Token} →
+      is_name name.kind ≡ true → is_comma comma.kind ≡ true → IsListed rest → IsListed (name ∷ comma ∷ rest)
 
 -- ---- names that are declared
 
--- the word, as a name
-abbrev pub is_word : (text word : List ℕ) → Token → Bool
-is_word text word t = is_name t.kind && bytes_eq (token_bytes text t) word
+-- a token is the word, as a name
+pub record IsWord (text word : List ℕ) (t : Token) : Type 0 where
+  pub name : is_name t.kind ≡ true
+  pub bytes : token_bytes text t ≡ word
 
 abbrev pub is_equal : Kind → Bool
 is_equal Kinds.Equal = true
 is_equal _ = false
 
+-- a `=` stands behind the first of tokens
 abbrev pub is_before_equal : List Token → Bool
 is_before_equal (t ∷ u ∷ rest) = is_equal u.kind
 is_before_equal _ = false
 
--- A name is declared as that of a procedure behind PROCEDURE, as that of a constant or of a type where such a declaration begins and before
--- a `=`, and as that of a variable, of a parameter or of a field in a list before a `:`.
-abbrev pub is_declared_at : Part → List Token → Bool
-is_declared_at Heading tokens = true
-is_declared_at Begins tokens = is_before_equal tokens || is_listed tokens
-is_declared_at _ tokens = is_listed tokens
+-- The name with which tokens begin is declared there, behind others that go back: as that of a procedure behind PROCEDURE, as that of a
+-- constant or of a type before a `=` where such a declaration begins, and as that of a variable, of a parameter or of a field in a list
+-- before a `:`.
+pub data IsDeclaredAt (before tokens : List Token) : Type 0 where
+  procedure : is_procedure (last_kind before) ≡ true → IsDeclaredAt before tokens
+  equation : is_in_equations before ≡ true → leads_one (last_kind before) ≡ true → is_before_equal tokens ≡ true → IsDeclaredAt before tokens
+  listed : IsListed tokens → IsDeclaredAt before tokens
 
-abbrev pub declares_from : (text : List ℕ) → Part → List Token → (word : List ℕ) → Bool
-declares_from text part tokens word = list_any (λ p. is_word text word p.token && is_declared_at p.part p.tokens) (places part tokens)
+-- it is declared behind any tokens of which the last is of this kind, and behind which constants and types are declared or not
+abbrev pub TellsDeclared : (last : Option Kind) → (equations : Bool) → (tokens : List Token) → Bool → Type 0
+TellsDeclared last equations tokens is =
+    (before : List Token) → last ≡ last_kind before → equations ≡ is_in_equations before → IsTrue is ↔ IsDeclaredAt before tokens
 
--- a word is a name that the text with these tokens declares: it is declared at one of its places
-abbrev pub declares : (text : List ℕ) → (tokens : List Token) → (word : List ℕ) → Bool
-declares text tokens word = declares_from text Outside tokens word
+-- constants and types are declared behind a token of this kind, where they are before it or not
+abbrev pub TellsEquations : (equations : Bool) → Kind → Bool → Type 0
+TellsEquations equations kind are =
+    (before : List Token) → (token : Token) → equations ≡ is_in_equations before → kind ≡ token.kind → are ≡ is_in_equations (token ∷ before)
+
+-- A word is a name that the text with these tokens declares: one of them is the word, and is declared where it stands.
+pub record Declares (text : List ℕ) (tokens : List Token) (word : List ℕ) : Type 0 where
+  pub before : List Token
+  pub name : Token
+  pub behind : List Token
+  pub parted : tokens ≡ before ++ name ∷ behind
+  pub is_word : IsWord text word name
+  pub declared : IsDeclaredAt (reverse before) (name ∷ behind)

@@ -1,35 +1,25 @@
 //! Which names a text declares, whether it is a module or not: by its tokens alone.
 
-ghost use Rattle.std.specs.Prelude.{◌≡◌};
-ghost use Rattle.ob_explain_words.specs.Declaring.{declares, is_before_equal, is_declared_at, is_listed, is_word, part_behind};
+ghost use Rattle.std.specs.Prelude.{◌≡◌, ◌↔◌, ◌&&◌, IsTrue};
+ghost use Rattle.ob_explain_words.specs.Declaring.{Declares, IsListed, IsWord, TellsDeclared, TellsEquations, is_before_equal, is_procedure, leads_one};
 
 use ob_explain_names::declarations::token_bytes;
 use ob_explain_tokens::kinds::{is_colon, is_comma, is_name};
 use ob_messages::words::is_same;
 use ob_scan::{Kind, Token};
 
-/// What stands somewhere in declarations.
-#[derive(Clone, Copy)]
-pub(crate) enum Part {
-    /// No constant and no type, and not behind PROCEDURE.
-    Outside,
-    /// The name of a procedure.
-    Heading,
-    /// The beginning of the declaration of a constant or of a type, or the rest of it.
-    Begins,
-    Within,
-}
-
 /// Whether a word is a name that the tokens of a text declare.
 pub fn declares(text: &[u8], mut tokens: &[Token], word: &[u8]) -> bool
-    ensures { result ≡ declares text.now tokens.entry.now word.now }
+    ensures { IsTrue result ↔ Declares text.now tokens.entry.now word.now }
 {
-    let mut part = Part::Outside;
+    let mut last: Option<Kind> = None;
+    let mut equations = false;
     while let [first, rest @ ..] = tokens {
-        if is_word(text, *first, word) && is_declared_at(part, tokens) {
+        if is_word(text, *first, word) && is_declared_at(last, equations, tokens) {
             return true;
         }
-        part = part_behind(part, first.kind);
+        last = Some(first.kind);
+        equations = are_behind(equations, first.kind);
         tokens = rest;
     }
     false
@@ -37,20 +27,42 @@ pub fn declares(text: &[u8], mut tokens: &[Token], word: &[u8]) -> bool
 
 /// Whether a token is the word, as a name.
 fn is_word(text: &[u8], token: Token, word: &[u8]) -> bool
-    ensures { result ≡ is_word text.now word.now token }
+    ensures { IsTrue result ↔ IsWord text.now word.now token }
 {
     is_name(token.kind) && is_same(token_bytes(text, token), word)
 }
 
-/// Whether the name with which tokens begin is declared there.
-fn is_declared_at(part: Part, tokens: &[Token]) -> bool
-    ensures { result ≡ is_declared_at part tokens.now }
+/// Whether the name with which tokens begin is declared there: behind a token of this kind, and where constants and types are declared or
+/// not.
+fn is_declared_at(last: Option<Kind>, equations: bool, tokens: &[Token]) -> bool
+    ensures { TellsDeclared last equations tokens.now result }
 {
-    match part {
-        Part::Heading => true,
-        Part::Begins => is_before_equal(tokens) || is_listed(tokens),
-        _ => is_listed(tokens),
+    if is_procedure(last) {
+        return true;
     }
+    if begins_equation(last, equations, tokens) {
+        return true;
+    }
+    is_listed(tokens)
+}
+
+fn is_procedure(last: Option<Kind>) -> bool
+    ensures { result ≡ is_procedure last }
+{
+    matches!(last, Some(Kind::Procedure))
+}
+
+/// Whether the declaration of a constant or of a type begins with these tokens.
+fn begins_equation(last: Option<Kind>, equations: bool, tokens: &[Token]) -> bool
+    ensures { result ≡ (equations && (leads_one last && is_before_equal tokens.now)) }
+{
+    equations && (leads_one(last) && is_before_equal(tokens))
+}
+
+fn leads_one(last: Option<Kind>) -> bool
+    ensures { result ≡ leads_one last }
+{
+    matches!(last, Some(Kind::Const | Kind::Type | Kind::Semicolon))
 }
 
 /// Whether a `=` stands behind the first of tokens.
@@ -65,32 +77,27 @@ fn is_before_equal(tokens: &[Token]) -> bool
 
 /// Whether tokens begin with names, separated by commas, and a `:`.
 fn is_listed(mut tokens: &[Token]) -> bool
-    ensures { result ≡ is_listed tokens.entry.now }
+    ensures { IsTrue result ↔ IsListed tokens.entry.now }
 {
     while let [name, next, rest @ ..] = tokens {
-        if !(is_name(name.kind) && is_comma(next.kind)) {
-            return is_name(name.kind) && is_colon(next.kind);
+        if !is_name(name.kind) {
+            return false;
+        }
+        if !is_comma(next.kind) {
+            return is_colon(next.kind);
         }
         tokens = rest;
     }
     false
 }
 
-/// What stands behind a token.
-fn part_behind(part: Part, kind: Kind) -> Part
-    ensures { result ≡ part_behind part kind }
+/// Whether constants and types are declared behind a token, where they are before it or not.
+fn are_behind(equations: bool, kind: Kind) -> bool
+    ensures { TellsEquations equations kind result }
 {
     match kind {
-        Kind::Const | Kind::Type => Part::Begins,
-        Kind::Procedure => Part::Heading,
-        Kind::Var | Kind::Begin => Part::Outside,
-        Kind::Semicolon => match part {
-            Part::Begins | Part::Within => Part::Begins,
-            _ => Part::Outside,
-        },
-        _ => match part {
-            Part::Begins | Part::Within => Part::Within,
-            _ => Part::Outside,
-        },
+        Kind::Const | Kind::Type => true,
+        Kind::Var | Kind::Procedure | Kind::Begin => false,
+        _ => equations,
     }
 }
