@@ -1,5 +1,9 @@
 //! Names of procedures and of what is declared, by the tokens of a text alone.
 
+ghost use Rattle.std.specs.Prelude.{◌≡◌, find};
+ghost use Rattle.ob_evidence.specs.Keywords.{first_of_statement, leads_there, next_behind};
+ghost use Rattle.ob_evidence.specs.Sites.{scene_of};
+
 use ob_evidence::names::leads_to_statement;
 use ob_evidence::site::{Site, is_kind};
 use ob_explain_tokens::actuals::ends_call;
@@ -72,16 +76,23 @@ pub(crate) fn called(site: &Site<'_, '_>, could: &[Kind]) -> Option<Token> {
 }
 
 /// The first token of the statement in which the place stands.
-pub(crate) fn first_of_statement(site: &Site<'_, '_>) -> Option<Token> {
-    let leader = site
-        .before
-        .iter()
-        .copied()
-        .find(|token| leads_to_statement(token.kind));
-    match leader {
+pub(crate) fn first_of_statement(site: &Site<'_, '_>) -> Option<Token>
+    ensures { result ≡ first_of_statement (scene_of site.now) }
+{
+    match leader(site.before) {
         Some(leader) => next_behind(site.tokens, leader.start),
         None => None,
     }
+}
+
+/// The first of these tokens behind which a statement may begin.
+fn leader(tokens: &[Token]) -> Option<Token>
+    ensures { result ≡ find leads_there tokens.now }
+{
+    tokens
+        .iter()
+        .copied()
+        .find(|token| leads_to_statement(token.kind))
 }
 
 /// Whether the statement in which the place stands begins with the name of a procedure and a `[`.
@@ -96,7 +107,9 @@ pub(crate) fn begins_with_bracket(site: &Site<'_, '_>) -> bool {
 }
 
 /// The first token behind a place.
-pub(crate) fn next_behind(tokens: &[Token], place: usize) -> Option<Token> {
+pub(crate) fn next_behind(tokens: &[Token], place: usize) -> Option<Token>
+    ensures { result ≡ next_behind tokens.now place }
+{
     tokens.iter().copied().find(|token| place < token.start)
 }
 

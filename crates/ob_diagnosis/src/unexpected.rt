@@ -2,6 +2,7 @@
 
 ghost use Rattle.std.specs.Prelude.{IfOk};
 ghost use Rattle.ob_evidence.specs.Constructs.{AreShown};
+ghost use Rattle.ob_evidence.specs.Keywords.{AreAsked};
 ghost use Rattle.ob_evidence.specs.Sites.{scene_of};
 
 use crate::calls::{begins_with_bracket, called, ends_repeat, is_assigned, is_procedure, lists};
@@ -37,7 +38,8 @@ pub(crate) fn seen_there(
     site: &Site<'_, '_>,
     could: &[Kind],
 ) -> Result<Found, AllocError>
-    ensures { IfOk result (λ found. AreShown (scene_of site.now) found.shown) }
+    ensures shown { IfOk result (λ found. AreShown (scene_of site.now) found.shown) }
+    ensures asked { IfOk result (λ found. AreAsked (scene_of site.now) found.keyword) }
 {
     let keyword = noted_keyword(facts, alloc, site)?;
     note(facts, !could.is_empty(), Fact::Expected)?;
@@ -68,7 +70,9 @@ fn noted_keyword(
     facts: &mut Vec<Fact>,
     alloc: Global,
     site: &Site<'_, '_>,
-) -> Result<Option<Kind>, AllocError> {
+) -> Result<Option<Kind>, AllocError>
+    ensures { IfOk result (λ keyword. AreAsked (scene_of site.now) keyword) }
+{
     if let Some(keyword) = keyword_there(alloc, site)? {
         facts.push(Fact::Keyword)?;
         return Ok(Some(keyword));

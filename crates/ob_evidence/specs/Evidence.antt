@@ -1,6 +1,6 @@
 -- What has to be true of what is known of a fault, by its number: of the slots that its sentences have, and of the facts by which a
 -- sentence is chosen.
-use Rattle.std.specs.Prelude.{◌≡◌, Bool, List, [], ◌∷◌, Option, None}
+use Rattle.std.specs.Prelude.{◌≡◌, ◌⊎◌, Bool, List, [], ◌∷◌, Option, None}
 use Rattle.ob_scan.specs.declared.token.Kind.TheVariants as Kinds
 use Rattle.ob_scan.specs.declared.token.Token.{Token}
 use Rattle.ob_explain_words.specs.Distance.{bytes_of}
@@ -16,6 +16,7 @@ use Rattle.ob_messages.specs.declared.table.Number.TheVariants as Numbers
 use Rattle.ob_evidence.specs.Constructs.{AreShown, IsOpen, inner_of, opening_of}
 use Rattle.ob_explain_names.specs.Expected.{AreExpected}
 use Rattle.ob_evidence.specs.Facts.{facts_in}
+use Rattle.ob_evidence.specs.Keywords.{IsAsked}
 use Rattle.ob_evidence.specs.Names.{declared, declared_line, end_name, is_near, near_name, parameters, sort_facts, sort_there}
 use Rattle.ob_evidence.specs.Numbers.{first_operand, is_known, length_there, second_operand, written}
 use Rattle.ob_evidence.specs.Sites.{Scene, here, is_kind, is_token, kind_or_name, last, line_of, rest_of, word_of}
@@ -24,8 +25,8 @@ use Rattle.ob_evidence.specs.Words.{are_told, is_counted, is_in_procedure, told_
 use Rattle.ob_evidence.specs.declared.constructs.Shown.{Shown}
 
 -- P1: what could stand there are the kinds of token with which the text before it goes on; the name is the word just before it; the
--- keyword and the lines are those of a construct that is open there or that the END before it closes, and of an IF in it. Of the facts,
--- by which a hint is chosen, nothing is promised, nor of the keyword that a hint asks about.
+-- keyword and the lines are those of a construct that is open there or that the END before it closes, and of an IF in it. The keyword that
+-- a hint asks about is one that a name there is meant to be. Of the facts, by which a hint is chosen, nothing is promised.
 pub record IsUnexpected (s : Scene) (e : Evidence) : Type 0 where
   pub shown : Option Shown
   pub are_shown : AreShown s shown
@@ -34,6 +35,7 @@ pub record IsUnexpected (s : Scene) (e : Evidence) : Type 0 where
   pub keyword : e.opening ≡ kind_or_name (opening_of shown)
   pub line : e.line ≡ line_of s.text (opening_of shown)
   pub other_line : e.other_line ≡ line_of s.text (inner_of shown)
+  pub asked : (e.keyword ≡ Kinds.Ident) ⊎ IsAsked s e.keyword
 
 -- P3: the name is that of what the END before it closes; the construct that is still open is the one that this END closes.
 pub record IsOtherName (s : Scene) (facts : List Fact) (e : Evidence) : Type 0 where

@@ -1,6 +1,7 @@
 pub mod Facts
 pub mod Sites
 pub mod Constructs
+pub mod Keywords
 pub mod Names
 pub mod Numbers
 pub mod Words
