@@ -6,7 +6,6 @@ use Rattle.ob_interface.specs.declared.scalar.Scalar.{Scalar}
 use Rattle.ob_interface.specs.declared.scalar.ScalarType.{ScalarType}
 use Rattle.ob_text_words.specs.Words.{Word}
 use Rattle.ob_text_words.specs.Values.{IsValue}
-use Rattle.ob_explain_arguments.specs.Calls.{name_told}
 use Rattle.ob_explain_arguments.specs.Misfits.{FitsAt, FitsUpTo, MisfitsAt}
 
 abbrev read : List (Bor Word) → List Word

@@ -74,9 +74,11 @@ fn label_sentence(label: &[u8]) -> &'static str
     ensures { result.now ≡ label_sentence label.now }
 {
     if has_small_letter(label) {
-        "labels are written in capitals, as 0:TRY; they are NEXT, POST, FLIP, TRY, LINK, LOAD, STORE, CHECK1, MINE, SEEN, FETCH, CHECK2, SAVE, ENTER, BODY, UNDO, KEEP, COMMIT, READ, TAKE and GIVE"
+        "labels are written in capitals, as 0:TRY; they are NEXT, POST, FLIP, TRY, LINK, LOAD, STORE, CHECK1, MINE, SEEN, \
+         FETCH, CHECK2, SAVE, ENTER, BODY, UNDO, KEEP, COMMIT, READ, TAKE and GIVE"
     } else {
-        "behind : stands a label, with no blank before it; they are NEXT, POST, FLIP, TRY, LINK, LOAD, STORE, CHECK1, MINE, SEEN, FETCH, CHECK2, SAVE, ENTER, BODY, UNDO, KEEP, COMMIT, READ, TAKE and GIVE"
+        "behind : stands a label, with no blank before it; they are NEXT, POST, FLIP, TRY, LINK, LOAD, STORE, CHECK1, MINE, \
+         SEEN, FETCH, CHECK2, SAVE, ENTER, BODY, UNDO, KEEP, COMMIT, READ, TAKE and GIVE"
     }
 }
 
