@@ -178,14 +178,17 @@ pub fn inner_of(shown: Option<Shown>) -> Option<Token>
 fn is_open_name(site: &Site<'_, '_>, before: &[Token]) -> bool {
     let word = site.word();
     let mut around = before;
+    let mut behind: Option<Token> = None;
     for _ in 0..before.len() {
         let Some(opening) = open_construct(around) else {
             return false;
         };
-        let (behind, from) = parted_at(before, opening);
-        if is_unit(opening.kind) && site.word_of(behind.last().copied()) == word {
+        let (inside, from) = parted_at(around, opening);
+        let name = inside.last().copied().or(behind);
+        if is_unit(opening.kind) && site.word_of(name) == word {
             return true;
         }
+        behind = Some(opening);
         around = rest_of(from);
     }
     false
