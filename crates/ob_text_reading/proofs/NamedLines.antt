@@ -4,11 +4,12 @@ use Rattle.ob_interface.specs.Export.{Signature}
 use Rattle.ob_text_reading.specs.LineReading.{TakesBegin, TakesEnd, TakesOrLeaves}
 use Rattle.ob_text_reading.specs.Names.{AreNamed, Naming, events_of, known, named_all}
 use Rattle.ob_text_reading.specs.Reading as Reading
-use Rattle.ob_text_reading.specs.Reading.{GoesOn, TakesNamed}
+use Rattle.ob_text_reading.specs.Reading.{GoesOn}
 use Rattle.ob_text_reading.specs.RecordLines as Records
 use Rattle.ob_text_reading.proofs.Growing.{as_before, events_end, events_more, may_begin, may_end, named_end, named_more}
 use Rattle.ob_text_reading.proofs.Naming.{Events}
 use Rattle.ob_text_reading.proofs.OneEvent.{ended}
+use Rattle.ob_text_reading.proofs.WrittenLines.{TakesNamed}
 use Rattle.ob_text_reading.specs.HistoryLines.{process_numbers}
 use Rattle.wf_history.specs.declared.event.CallId.{CallId}
 

@@ -1,11 +1,11 @@
 -- Lines as runs write them, taken up.
-use Rattle.std.proofs.Common.{◌≡◌, ◌∙◌, ℕ, false, List, [], ◌∷◌, ◌++◌, map, codes, refl, sym, subst, Bor, Result, Ok, Err, IfOk, IfSome, Option, Some, None, MatchOption}
+use Rattle.std.proofs.Common.{◌≡◌, ◌∙◌, ℕ, false, List, [], ◌∷◌, map, codes, refl, sym, subst, Bor, Result, Ok, Err, IfOk, IfSome, Option, Some, None}
 use Rattle.ob_interface.specs.Call.{ObjectCall, Reply}
 use Rattle.ob_interface.specs.Export.{Signature}
 use Rattle.ob_text_reading.specs.HistoryLines.{process_numbers}
 use Rattle.ob_text_reading.specs.LineReading as Lines
 use Rattle.ob_text_reading.specs.LineReading.{LeadsOn, TakesBegin, TakesEnd, TakesLine, TakesOrLeaves}
-use Rattle.ob_text_reading.specs.Reading.{GoesOn, TakesNamed}
+use Rattle.ob_text_reading.specs.Reading.{GoesOn}
 use Rattle.ob_text_reading.specs.RecordLines as Records
 use Rattle.ob_text_reading.specs.RecordLines.{IsApplied, IsId, Line}
 use Rattle.ob_text_reading.proofs.OneEvent.{ended}
@@ -15,6 +15,13 @@ use Rattle.ob_text_values_reading.proofs.WrittenWords.{blank_said, feed_said, li
 use Rattle.ob_text_words.specs.Words.{Word, lines, words}
 use Rattle.wf_history.specs.declared.event.CallId.{CallId}
 use Rattle.wf_history.specs.History.{Event}
+
+-- behind a letter and the name of a call, the first line of a text leads to those events, and this stands behind it
+pub record TakesNamed (letter : Word) (signatures : List Signature) (before : List (Event ObjectCall Reply)) (i : CallId) (text : List ℕ)
+    (after : List (Event ObjectCall Reply)) (rest : List ℕ) : Type 0 where
+  pub line : Line
+  pub parts : map words (lines text) ≡ line ∷ map words (lines rest)
+  pub leads : (word : Word) → IsId process_numbers word i → GoesOn signatures before (letter ∷ word ∷ line) after
 
 -- a line of applied calls, where such a line leads nowhere else
 module _ {X : Type 0} (processes : ℕ) (Leads : Line → X → Type 0) (before : X) (stays : (line : Line) → IsApplied processes line → Leads line before) (text : List ℕ) (i : CallId) where

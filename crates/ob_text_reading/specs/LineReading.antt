@@ -1,5 +1,5 @@
 -- What is read of one line behind a record's head, and of all of them.
-use Rattle.std.specs.Prelude.{◌≡◌, ℕ, ◌+◌, List, [], ◌∷◌, ◌++◌, length, map, codes, Option, Some, MatchOption}
+use Rattle.std.specs.Prelude.{◌≡◌, ℕ, ◌+◌, List, [], ◌∷◌, ◌++◌, length, map, Option, Some, MatchOption}
 use Rattle.std.specs.Borrow.{Bor}
 use Rattle.ob_interface.specs.Call.{ObjectCall, Reply}
 use Rattle.ob_interface.specs.Export.{Signature, value_types}

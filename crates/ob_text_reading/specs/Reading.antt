@@ -1,5 +1,5 @@
 -- How reading goes on: what has been heard so far, and what one more line makes of it.
-use Rattle.std.specs.Prelude.{◌≡◌, ℕ, ◌<◌, ◌==◌, ◌||◌, Bool, IsTrue, List, [], ◌∷◌, ◌++◌, length, map, slice_get, Option, Some, None}
+use Rattle.std.specs.Prelude.{◌≡◌, ℕ, ◌<◌, ◌==◌, ◌||◌, Bool, IsTrue, List, [], ◌∷◌, ◌++◌, length, slice_get, Option, Some, None}
 use Rattle.ob_checked.specs.Exports.{signatures}
 use Rattle.ob_interface.specs.Call.{ObjectCall, Reply}
 use Rattle.ob_interface.specs.Export.{Signature}
@@ -13,9 +13,9 @@ use Rattle.ob_text_values_reading.specs.declared.kind.LineKind.TheVariants as Ki
 use Rattle.ob_text_values_reading.specs.declared.kind.Stage.{Stage}
 use Rattle.ob_text_values_reading.specs.declared.kind.Stage.TheVariants as Stages
 use Rattle.ob_text_reading.specs.Openings.{IsOpening}
-use Rattle.ob_text_reading.specs.RecordLines.{AreIds, IsApplied, IsBudget, IsId, IsTail, Line}
+use Rattle.ob_text_reading.specs.RecordLines.{AreIds, IsApplied, IsBudget, IsTail, Line}
 pub use Rattle.ob_text_values_reading.specs.LineKinds.{kind_of, place}
-use Rattle.ob_text_words.specs.Words.{Word, lines, words}
+use Rattle.ob_text_words.specs.Words.{Word}
 use Rattle.ob_typing.specs.Program.{Program, Variable}
 use Rattle.wf_history.specs.declared.event.CallId.{CallId}
 use Rattle.wf_history.specs.History.{Event, Begin, End}
@@ -61,13 +61,6 @@ event_said (Says.End id reply) = End id (kept_reply reply)
 pub data GoesOn (signatures : List Signature) (before : List (Event ObjectCall Reply)) (line : Line) : List (Event ObjectCall Reply) → Type 0 where
   event : {e : Event ObjectCall Reply} → IsNamedEvent signatures before line e → GoesOn signatures before line (before ++ e ∷ [])
   applied : IsApplied process_numbers line → GoesOn signatures before line before
-
--- behind a letter and the name of a call, the first line of a text leads to those events, and this stands behind it
-pub record TakesNamed (letter : Word) (signatures : List Signature) (before : List (Event ObjectCall Reply)) (i : CallId) (text : List ℕ)
-    (after : List (Event ObjectCall Reply)) (rest : List ℕ) : Type 0 where
-  pub line : Line
-  pub parts : map words (lines text) ≡ line ∷ map words (lines rest)
-  pub leads : (word : Word) → IsId process_numbers word i → GoesOn signatures before (letter ∷ word ∷ line) after
 
 -- a line leads from one to the other
 module _ (program : Program) (h : Heard) (line : Line) where

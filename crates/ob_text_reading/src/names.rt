@@ -1,12 +1,12 @@
 //! The calls of each process, by the names that a text has for processes.
 
-ghost use Rattle.std.specs.Prelude.{◌≡◌, ◌↔◌, [], ◌∷◌, ◌++◌, ◌==◌, codes, length, map, IfOk, IsTrue, MatchOption};
+ghost use Rattle.std.specs.Prelude.{◌≡◌, ◌↔◌, [], ◌∷◌, ◌++◌, ◌==◌, length, map, IfOk, IsTrue, MatchOption};
 ghost use Rattle.std.specs.List.{position};
 ghost use Rattle.ob_interface.specs.Call as Object;
 ghost use Rattle.ob_interface.specs.View.{signature_of};
 ghost use Rattle.ob_text_reading.specs.LineReading.{TakesLine, TakesOrLeaves};
 ghost use Rattle.ob_text_reading.specs.Names.{AreApart, AreBelow, HaveBegun, HasNoPlace, IsPlaceOf, MayCome, MayEnd, events_of};
-ghost use Rattle.ob_text_reading.specs.Reading.{GoesOn, TakesNamed};
+ghost use Rattle.ob_text_reading.specs.Reading.{GoesOn};
 ghost use Rattle.wf_history.specs.History.{Begin, End, IsHistory};
 ghost use Rattle.wf_history.specs.View.{kept_call, kept_reply};
 
@@ -158,52 +158,20 @@ impl NamedCalls {
             return Ok(None);
         };
         match (kind, *ender) {
-            (b'A', b'\n') => Ok(Some(rest)),
-            (b'A', b' ') => Ok(behind_ids(PROCESS_NUMBERS, rest)),
-            (b'B', b' ') => self.take_named_begin(alloc, exports, id, rest),
-            (b'E', b' ') => self.take_named_end(alloc, exports, id, rest),
+            (b'A', b'\n') => return Ok(Some(rest)),
+            (b'A', b' ') => return Ok(behind_ids(PROCESS_NUMBERS, rest)),
+            _ => {}
+        }
+        let Some(process) = self.place_known(id.process) else {
+            return Ok(None);
+        };
+        let number = id.number;
+        let placed = CallId { process, number };
+        match (kind, *ender) {
+            (b'B', b' ') => take_begin(alloc, exports, &mut self.calls, placed, rest),
+            (b'E', b' ') => take_end(alloc, exports, &mut self.calls, placed, rest),
             _ => Ok(None),
         }
-    }
-
-    /// The same of a call that begins; the text is what stands behind its name.
-    #[inline(always)]
-    fn take_named_begin<'a>(
-        &mut self,
-        alloc: Global,
-        exports: &[Export],
-        id: CallId,
-        text: &'a [u8],
-    ) -> Result<Option<&'a [u8]>, NoMemory>
-        ensures { IfOk result (TakesOrLeaves (events_of self.old) (events_of self.new)
-            (TakesNamed (codes "B") (map signature_of exports.now) (events_of self.old) id text.now)) }
-    {
-        let Some(process) = self.place_known(id.process) else {
-            return Ok(None);
-        };
-        let number = id.number;
-        let placed = CallId { process, number };
-        take_begin(alloc, exports, &mut self.calls, placed, text)
-    }
-
-    /// The same of a call that ends with values; the text is what stands behind its name.
-    #[inline(always)]
-    fn take_named_end<'a>(
-        &mut self,
-        alloc: Global,
-        exports: &[Export],
-        id: CallId,
-        text: &'a [u8],
-    ) -> Result<Option<&'a [u8]>, NoMemory>
-        ensures { IfOk result (TakesOrLeaves (events_of self.old) (events_of self.new)
-            (TakesNamed (codes "E") (map signature_of exports.now) (events_of self.old) id text.now)) }
-    {
-        let Some(process) = self.place_known(id.process) else {
-            return Ok(None);
-        };
-        let number = id.number;
-        let placed = CallId { process, number };
-        take_end(alloc, exports, &mut self.calls, placed, text)
     }
 
     /// The names of the processes, and their events by numbers.
