@@ -25,6 +25,10 @@ pub record AreLinked (links : List Link) (lists : List (List ℕ)) : Type 0 wher
   pub each : (k : ℕ) (l : Link) → slice_get links k ≡ Some l → (l.list < k + 1) × (slice_get lists (k + 1) ≡ Some (list_with lists l.list l.reply))
   pub apart : AreApart lists
 
+-- the number is that of the list which the link of this list and this reply makes
+abbrev pub IsLinkOf : List Link → (list reply number : ℕ) → Type 0
+IsLinkOf links list reply number = (k : ℕ) × (number ≡ k + 1) × (slice_get links k ≡ Some (record { list = list; reply = reply }))
+
 abbrev pub AreLists : Lists → Type 0
 AreLists lists = AreLinked lists.links.keys (lists_in lists)
 

@@ -1,8 +1,9 @@
 -- Whole outcomes, as the definitions see them.
-use Rattle.std.specs.Prelude.{ℕ, ◌+◌, List, [], ◌∷◌, map, filter_map, get_or, replicate, slice_get}
+use Rattle.std.specs.Prelude.{◌≡◌, ℕ, ◌+◌, List, [], ◌∷◌, map, filter_map, get_or, replicate, slice_get, Some}
 use Rattle.std.specs.Borrow.{Bor}
 use Rattle.ob_interface.specs.Call.{Reply}
 use Rattle.wf_history.specs.View.{kept_reply}
+use Rattle.wf_outcomes.specs.Explored.{Kept, state_at}
 use Rattle.wf_whole_outcomes.specs.Layers.{ways_of}
 use Rattle.wf_whole_outcomes.specs.Leaves.{named}
 use Rattle.wf_whole_outcomes.specs.Nodes.{lists_in, trail_in}
@@ -42,6 +43,10 @@ wholes_from known processes f k (state ∷ states) = whole_at known processes f 
 -- what a state that is lent stands for
 abbrev pub seen_in : {State Meaning : Type 0} → (State → Meaning) → Bor State → Meaning
 seen_in meaning s = meaning s.now
+
+-- the states are those of the configurations at the nodes' places
+abbrev pub AreStatesOf : {State Meaning : Type 0} → (State → Meaning) → List (Kept Meaning) → ToldWholes (Bor State) → Type 0
+AreStatesOf meaning found t = map Some (map (seen_in meaning) t.states.items) ≡ map (λ node. state_at found node.place) t.front.layer.keys
 
 abbrev pub wholes_in : {State Meaning : Type 0} → (State → Meaning) → ToldWholes State → List (WholeTold Meaning Reply)
 wholes_in meaning t = wholes_from (map kept_reply t.replies.items) t.processes t.front 0 (map meaning t.states.items)

@@ -95,14 +95,21 @@ fn expand(
     Ok(())
 }
 
-/// Nothing is reached yet. There is room for as many nodes as the layer before has.
-fn nothing_reached(ground: &Ground<'_>, lists: Lists, room: usize) -> Result<Growing, NoMemory>
+/// Nothing is reached yet behind a layer with so many nodes. There is room for twice as many, but for no more than may be reached: most
+/// layers have fewer.
+fn nothing_reached(
+    ground: &Ground<'_>,
+    lists: Lists,
+    before: usize,
+    most: usize,
+) -> Result<Growing, NoMemory>
     ensures lists { IfOk result (λ g. g.lists ≡ lists) }
     ensures layer { IfOk result (λ g. g.layer.keys ≡ []) }
     ensures came { IfOk result (λ g. g.came.items ≡ []) }
 {
+    let room = before.saturating_mul(2).min(most);
     let layer = Layer::with_capacity_and_hasher(ground.alloc, room, Keys::new(ground.keys))?;
-    let came = Vec::new(ground.alloc);
+    let came = Vec::with_capacity(ground.alloc, room)?;
     Ok(Growing { lists, layer, came })
 }
 
@@ -121,7 +128,7 @@ pub(crate) fn layer_behind(
     ensures few { IfOk result (λ g. length g.layer.keys ≤ room) }
     ensures most { IsErrOf result LayersFault.TooMany → GrowsOver (next_from (rows_in ground.now.rows.now)) (spots_in (lists_in lists) layer.now.keys) room }
 {
-    let mut growing = nothing_reached(ground, lists, layer.len())?;
+    let mut growing = nothing_reached(ground, lists, layer.len(), room)?;
     for from in 0..layer.len() {
         expand(ground, &mut growing, layer, from)?;
         if growing.layer.len() > room {

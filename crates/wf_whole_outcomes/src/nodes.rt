@@ -1,8 +1,8 @@
 //! What a search keeps of where a way leads.
 
-ghost use Rattle.std.specs.Prelude.{◌≡◌, ◌<◌, ◌++◌, ◌∷◌, [], length, slice_get, slice_set, Some, IfOk, OnOk};
+ghost use Rattle.std.specs.Prelude.{◌≡◌, ◌<◌, ◌++◌, ◌∷◌, [], length, slice_get, slice_set, Some, IfOk, IfSome, OnOk};
 ghost use Rattle.wf_whole_outcomes.specs.Graph.{GoesOn, spot_on};
-ghost use Rattle.wf_whole_outcomes.specs.Nodes.{AreLists, IsNode, list_with, lists_in, spot_in};
+ghost use Rattle.wf_whole_outcomes.specs.Nodes.{AreLists, IsLinkOf, IsNode, list_with, lists_in, spot_in};
 
 use crate::edges::Edge;
 use indexmap::IndexSet;
@@ -19,11 +19,14 @@ pub struct Link {
 }
 
 /// Lists of the numbers of replies, each once: first the empty one, and then of each link the list that it makes. What is kept of a list
-/// is its number, and to make one longer, no list is gone over: its link is looked up.
+/// is its number, and to make one longer, no list is gone over: its link is looked up. The link that was looked up last behind a list is
+/// tried first.
 #[derive(Drop)]
 pub struct Lists {
     pub links: IndexSet<Link, Keys>,
     pub items: Vec<Vec<usize>>,
+    /// Of each list the number of the longer one that was asked for last.
+    pub lasts: Vec<usize>,
 }
 
 /// Of each process the number of the list of its replies so far.
@@ -49,6 +52,26 @@ fn with_reply(alloc: Global, list: &[usize], reply: usize) -> Result<Vec<usize>,
     Ok(longer)
 }
 
+/// The number of the list with one reply more, where that was asked for last.
+fn last_longer(lists: &Lists, list: usize, reply: usize) -> Option<usize>
+    ensures { IfSome result (λ number. IsLinkOf lists.now.links.keys list reply number) }
+{
+    let number = *lists.lasts.get(list)?;
+    let link = lists.links.get_index(number.checked_sub(1)?)?;
+    if link.list == list && link.reply == reply {
+        Some(number)
+    } else {
+        None
+    }
+}
+
+/// Notes which longer list was asked for last.
+fn set_last(lasts: &mut [usize], list: usize, number: usize) {
+    if let Some(last) = lasts.get_mut(list) {
+        *last = number;
+    }
+}
+
 /// The number of the list with one reply more.
 fn longer(alloc: Global, lists: &mut Lists, list: usize, reply: usize) -> Result<usize, NoMemory>
     requires list { list < length (lists_in lists.old) }
@@ -57,13 +80,18 @@ fn longer(alloc: Global, lists: &mut Lists, list: usize, reply: usize) -> Result
     ensures lists { OnOk result (AreLists lists.new) }
     ensures more { OnOk result (GoesOn (lists_in lists.old) (lists_in lists.new)) }
 {
+    if let Some(number) = last_longer(lists, list, reply) {
+        return Ok(number);
+    }
     let many = lists.items.len();
     let (link, is_new) = lists.links.insert_full(Link { list, reply })?;
+    set_last(&mut lists.lasts, list, link + 1);
     if !is_new {
         return Ok(link + 1);
     }
     let items = with_reply(alloc, &lists.items[list], reply)?;
     lists.items.push(items)?;
+    lists.lasts.push(0)?;
     Ok(many)
 }
 

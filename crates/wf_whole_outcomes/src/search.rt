@@ -54,7 +54,13 @@ fn no_lists(ground: &Ground<'_>) -> Result<Lists, NoMemory>
     let links = IndexSet::with_hasher(ground.alloc, Keys::new(ground.keys));
     let mut items = Vec::new(ground.alloc);
     items.push(Vec::new(ground.alloc))?;
-    Ok(Lists { links, items })
+    let mut lasts = Vec::new(ground.alloc);
+    lasts.push(0)?;
+    Ok(Lists {
+        links,
+        items,
+        lasts,
+    })
 }
 
 /// The one node at which nothing is said.

@@ -4,11 +4,11 @@ ghost use Rattle.std.specs.Prelude.{◌≡◌, map, length, IfOk, IsErrOf};
 ghost use Rattle.wf_whole_outcomes.specs.Graph.{IsNarrow, next_from, rows_in};
 ghost use Rattle.wf_whole_outcomes.specs.Layers.{HasOver};
 ghost use Rattle.wf_whole_outcomes.specs.Nodes.{IsFront, first_spot};
-ghost use Rattle.wf_outcomes.specs.Explored.{calls_in};
+ghost use Rattle.wf_outcomes.specs.Explored.{all_kept, calls_in};
 ghost use Rattle.wf_outcomes.specs.Merges.{total};
 ghost use Rattle.wf_outcomes.specs.OutcomeOrders.{IsItself};
 ghost use Rattle.wf_whole_outcomes.specs.Tellings.{HasMoreTold};
-ghost use Rattle.wf_whole_outcomes.specs.View.{seen_in, wholes_in};
+ghost use Rattle.wf_whole_outcomes.specs.View.{AreStatesOf, seen_in, wholes_in};
 ghost use Rattle.wf_whole_outcomes.specs.Wholes.{AreWholes};
 
 use crate::graph::graph_of;
@@ -66,6 +66,7 @@ pub fn wholes_told<'e, O: Object>(
 ) -> Result<ToldWholes<&'e O::State>, ExploreFault>
     ensures wholes { IfOk result (λ told. ∥ AreWholes IsItself (O.effect explored.now.object.now) (calls_in explored.now.scripts.now) (O.opening explored.now.object.now)
         (wholes_in (seen_in O.meaning) told) ∥₁) }
+    ensures placed { IfOk result (λ told. AreStatesOf O.meaning (all_kept O.meaning explored.now.seen) told) }
     // It gives up only where more can be told.
     ensures most { IsErrOf result ExploreFault.TooMany → ∥ HasMoreTold (O.effect explored.now.object.now) (calls_in explored.now.scripts.now)
         (O.opening explored.now.object.now) most ∥₁ }

@@ -5,6 +5,13 @@ use Rattle.wf_whole_outcomes.specs.Nodes.{IsGrown, lists_in}
 use Rattle.wf_whole_outcomes.proofs.Advancing.{goes_both, grows_over}
 use Rattle.wf_whole_outcomes.proofs.growing.layer_behind.Goals as goal
 
+pub loop-from-preserved : goal.loop-from-preserved
+loop-from-preserved c = record {
+  grown = c.in_ok-expand.ensures.grown;
+  more = goes_both (lists_in c.args.lists) (lists_in c.loop-from.growing.lists) (lists_in c.expand.new.growing.lists) c.loop-from.invariant.more c.in_ok-expand.ensures.more;
+  few = let over = c.if-len-room.false in let count = c.len-in-loop-from.ensures.len in omega (arith, over, count);
+}
+
 pub returns-then-len-room-clause-most : goal.returns-then-len-room-clause-most
 returns-then-len-room-clause-most c = λ _.
     let count = c.len.ensures.len in

@@ -1,12 +1,27 @@
 -- By the link: it was there, with its list, or both are new.
-use Rattle.std.proofs.Common.{◌≡◌, ◌<◌, ap, ◌∙◌, ◌∷◌, ◌++◌, [], Global, List, Vec, ℕ, Some, arith, get_or, length, map, sym}
+use Rattle.std.proofs.Common.{◌≡◌, ◌<◌, ap, ◌∙◌, ◌∷◌, ◌++◌, [], Global, List, Vec, ℕ, Some, arith, get_or, length, map, subst, sym}
 use Rattle.std.proofs.lemmas.List.{get_or-map, length-map, map-append}
 use Rattle.std.specs.List.{list_any, slice_get}
-use Rattle.wf_whole_outcomes.specs.Nodes.{list_with, lists_in}
+use Rattle.wf_history.proofs.Positions.{place_here}
+use Rattle.wf_whole_outcomes.specs.Nodes.{AreLinked, list_with, lists_in}
 use Rattle.wf_whole_outcomes.specs.declared.nodes.Link.{Link}
 use Rattle.wf_whole_outcomes.proofs.Interning.{exact_links, link_eq, new_linked, old_link}
 use Rattle.wf_whole_outcomes.proofs.Noding.{when_not, when_so}
 use Rattle.wf_whole_outcomes.proofs.nodes.longer.Goals as goal
+
+pub returns-in-Some-clause-there : goal.returns-in-Some-clause-there
+returns-in-Some-clause-there c =
+    let lists = c.args.lists.now in
+    let of = c.in-Some.ensures in
+    ap (slice_get (lists_in lists)) of.1 ∙ (c.requires.lists.each of.0 (record { list = c.args.list; reply = c.args.reply }) of.2).1
+
+pub returns-then-not-is_new-clause-lists : goal.returns-then-not-is_new-clause-lists
+returns-then-not-is_new-clause-lists c =
+    let lists = c.args.lists.now in
+    let link : Link = record { list = c.args.list; reply = c.args.reply } in
+    let old = old_link lists.links.keys (lists_in lists) c.requires.lists link c.requires.list c.insert_full.new.self.keys c.in_ok-link.ensures.keys
+    (when_not c.in_ok-link.is_new (list_any (link_eq link) lists.links.keys) c.in_ok-link.ensures.added c.if-not-is_new.true) in
+    subst (λ (l : List Link). AreLinked l (lists_in lists)) (sym old) c.requires.lists
 
 pub returns-then-not-is_new-clause-there : goal.returns-then-not-is_new-clause-there
 returns-then-not-is_new-clause-there c =
@@ -43,3 +58,13 @@ returns-clause-more c =
       with_made lists.items.items c.push.new.self.items c.args.list c.args.reply c.index.result.now c.in_ok-items.items c.requires.list c.index.ensures
           (c.in_ok-items.ensures ∙ ap (λ (b : List ℕ). b ++ c.args.reply ∷ []) c.deref.ensures.value) c.in_ok-push.ensures.items,
     )
+
+pub returns-clause-there : goal.returns-clause-there
+returns-clause-there c =
+    let lists = c.args.lists.now in
+    let all = with_made lists.items.items c.push.new.self.items c.args.list c.args.reply c.index.result.now c.in_ok-items.items c.requires.list c.index.ensures
+    (c.in_ok-items.ensures ∙ ap (λ (b : List ℕ). b ++ c.args.reply ∷ []) c.deref.ensures.value) c.in_ok-push.ensures.items in
+    let size = length-map lists.items.items (λ (l : Vec ℕ Global). l.items) in
+    let many : c.len-many.result ≡ length (lists_in lists) = c.len-many.ensures ∙ lists.items.ok.0 ∙ sym size in
+    ap (slice_get (map (λ (l : Vec ℕ Global). l.items) c.push.new.self.items)) many ∙ ap (λ (l : List (List ℕ)). slice_get l (length (lists_in lists))) all
+    ∙ place_here (lists_in lists) [] (list_with (lists_in lists) c.args.list c.args.reply)
