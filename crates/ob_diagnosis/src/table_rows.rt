@@ -142,6 +142,7 @@ pub(crate) fn plain_remark(
             (ends_number(before), Fact::BehindDigits),
             (ends_with_minus(before), Fact::BehindMinus),
             (awaits_type(before), Fact::TypeAwaited),
+            (is_behind_case(before), Fact::BehindCase),
         ],
     )?;
     told(alloc, site, number, &of_facts(&facts), &nothing())
@@ -161,6 +162,16 @@ fn awaits_type(before: &[u8]) -> bool {
     before.ends_with(b":")
         || before.ends_with(b"=") && !before.ends_with(b":=")
         || before.ends_with(b" OF")
+}
+
+/// Whether a word CASE stands among some bytes.
+fn is_behind_case(before: &[u8]) -> bool {
+    for at in 0..before.len() {
+        if halves(before, at).1.starts_with(b" CASE ") {
+            return true;
+        }
+    }
+    false
 }
 
 /// Whether the first of some bytes is no ASCII.
