@@ -1,12 +1,15 @@
 -- Arguments that fit parameters, one after the other, and how many there are.
-use Rattle.std.proofs.Common.{◌≡◌, ◌<◌, suc, Bool, true, false, cond, not, List, [], ◌∷◌, length, map, filter, refl, ap, ◌∙◌, sym, arith}
+use Rattle.std.proofs.Common.{◌≡◌, ℕ, ◌<◌, ◌≤◌, Some, suc, Bool, true, false, cond, not, List, [], ◌∷◌, length, map, filter, refl, ap, ◌∙◌, sym, arith}
 use Rattle.std.proofs.Math.Logic.{∥∥₁_elim}
 use Rattle.std.proofs.Math.Bridge.{le_prop}
+use Rattle.std.specs.Prelude.{slice_get}
 use Rattle.std.proofs.lemmas.List.{length-map}
 use Rattle.std.proofs.lemmas.Option.{slice_get_within}
 use Rattle.ob_code_calls.specs.Calls.{meaning_of}
 use Rattle.ob_code_correct.proofs.ExportLaw.{most_has}
-use Rattle.ob_code_correct.specs.CodeMeaning.{EngineParts, value_count}
+use Rattle.ob_code_correct.proofs.ExportLaw as Law
+use Rattle.ob_code_correct.specs.CodeMeaning.{Entrance, EngineParts, value_count}
+use Rattle.ob_code_correct.specs.Parts.{HasProgram}
 use Rattle.ob_code_correct.specs.Compiled.{IsFitting}
 use Rattle.ob_interface.specs.Call.{ObjectCall}
 use Rattle.ob_interface.specs.declared.export.Formal.{Formal}
@@ -55,3 +58,8 @@ has_room_for parts call fits = ∥∥₁_elim fits le_prop (λ f.
 -- and its number is one of an export
 pub is_within : (parts : EngineParts) (call : ObjectCall) → ∥ IsFitting parts.exports call ∥₁ → call.export < length parts.exports
 is_within parts call fits = ∥∥₁_elim fits le_prop (λ f. slice_get_within parts.exports call.export f.entrance f.there)
+
+-- an export has few parameters
+pub few : (parts : EngineParts) → ∥ HasProgram parts ∥₁ → (i : ℕ) (x : Entrance) → slice_get parts.exports i ≡ Some x → length x.parameters ≤ 8
+few parts there i x h =
+    ∥∥₁_elim there le_prop (λ p. Law.few p.0 p.1.well i x (ap (λ (q : EngineParts). slice_get q.exports i) (sym p.1.parts_are) ∙ h))

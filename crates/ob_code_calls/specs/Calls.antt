@@ -1,13 +1,18 @@
 -- What a call makes of a block of words, and what it answers.
-use Rattle.std.specs.Prelude.{◌≡◌, ◌+◌, ◌*◌, ℕ, ℤ, List, [], ◌∷◌, length}
+use Rattle.std.specs.Prelude.{◌≡◌, ◌+◌, ◌*◌, ℕ, ℤ, List, [], ◌∷◌, Option, Some, None, length}
 use Rattle.ob_interface.specs.Call.{ObjectCall, Reply, Answers, Trapped}
+use Rattle.ob_interface.specs.declared.scalar.Scalar.{Scalar}
 use Rattle.ob_typing.specs.Program.{Program}
 use Rattle.ob_meaning.specs.ByPositionObject.{effect}
 use Rattle.ob_meaning.specs.ByPositionStore.{Activation}
 use Rattle.ob_code_correct.specs.CodeMeaning.{EngineParts, code_meaning}
 use Rattle.ob_code_machine.specs.Body.{Run}
 use Rattle.ob_code_scheme.specs.Layout.{IsEncoding}
-use Rattle.wf_table.specs.Meaning.{Meaning, body}
+use Rattle.wf_table.specs.Meaning.{Meaning, body, kept}
+
+-- the call of an export by its number, with these value arguments
+abbrev pub asked : ℕ → List Scalar → ObjectCall
+asked number arguments = record { export = number; arguments = arguments }
 
 -- Of a call of the program with so many turns, on the state whose words a block has: what it comes to there has this reply, and the block
 -- has the words of the state behind it. That is the state before it, where the call traps.
@@ -37,9 +42,15 @@ abbrev pub block_behind : Reply → (before left : List ℤ) → List ℤ
 block_behind (Answers values) before left = left
 block_behind (Trapped number) before left = before
 
+-- Of a call that is made on the block of a state, and leaves another block and the run of its body: where it has returned, the block is that of
+-- the state behind it, and the run has its reply; where it traps, the block before it is.
+abbrev pub IsMadeThrough : Program → EngineParts → ObjectCall → (before : Activation) → (block left : List ℤ) → Run → (trap : Option ℕ) → Type 0
+IsMadeThrough program parts call before block left run None =
+    IsMade program parts.budget call before left ((meaning_of parts).reply call (kept (meaning_of parts) run))
+IsMadeThrough program parts call before block left run (Some number) = IsMade program parts.budget call before block (Trapped number)
+
 -- what calls work in is as large as code with these parts needs it
-pub record HasRoom (parts : EngineParts) (reserve call saved results : ℕ) : Type 0 where
+pub record HasRoom (parts : EngineParts) (reserve call results : ℕ) : Type 0 where
   pub stack : reserve ≡ parts.reserve
   pub announced : call ≡ (meaning_of parts).arguments
-  pub block : saved ≡ parts.variables
-  pub replied : results ≡ (meaning_of parts).replies + 1
+  pub replied : results ≡ (meaning_of parts).replies

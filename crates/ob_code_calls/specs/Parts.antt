@@ -10,4 +10,4 @@ parts_in c = c.engine.parts
 
 -- the room is large enough for calls of code with these parts
 abbrev pub IsRoomFor : EngineParts → Room → Type 0
-IsRoomFor parts room = HasRoom parts room.run.reserve (length room.call.items) (length room.saved.items) (length room.results.items)
+IsRoomFor parts room = HasRoom parts room.run.reserve (length room.call.items) (length room.results.items)

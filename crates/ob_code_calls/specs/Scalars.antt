@@ -1,10 +1,17 @@
 -- States whose variables hold scalars alone.
-use Rattle.std.specs.Prelude.{◌≡◌, ℤ, Some}
+use Rattle.std.specs.Prelude.{◌≡◌, ℤ, List, Some, map}
+use Rattle.ob_checked.specs.Types.{Entry}
+use Rattle.ob_checked.specs.View.{variable_of}
+use Rattle.ob_checked.specs.declared.program.Variable as Declared
+use Rattle.ob_interface.specs.Call.{ObjectCall, Reply}
 use Rattle.ob_interface.specs.declared.scalar.Scalar.{Scalar}
 use Rattle.ob_interface.specs.declared.scalar.ScalarType.{ScalarType}
-use Rattle.ob_typing.specs.Program.{DataType, Simple}
+use Rattle.ob_typing.specs.Program.{DataType, Program, Simple}
 use Rattle.ob_meaning.specs.ByPositionStore.{Held, Holds}
 use Rattle.ob_meaning.specs.ByPositionValue.{Single}
+use Rattle.ob_code_correct.specs.CodeMeaning.{EngineParts}
+use Rattle.ob_code_correct.specs.Compiled.{CallEnds}
+use Rattle.ob_code_correct.specs.Parts.{IsCompiledTo}
 use Rattle.ob_code_scheme.specs.Layout.{word, scalar_in}
 use Rattle.ob_code_scheme.specs.Types.{IsValueOf}
 
@@ -22,3 +29,14 @@ pub record IsReadAs (type : DataType) (w : ℤ) (scalar : Scalar) : Type 0 where
   pub scalar_type : ScalarType
   pub simple : type ≡ Simple scalar_type
   pub read : scalar_in scalar_type w ≡ Some scalar
+
+-- the code is that of a program with these variables
+pub record IsCodeWith (variables : List Declared.Variable) (parts : EngineParts) : Type 0 where
+  pub program : Program
+  pub types : List Entry
+  pub compiled : IsCompiledTo program parts
+  pub are : map (variable_of types) variables ≡ program.variables
+
+-- the call leads from variables that hold these scalars to variables that hold those, with this reply
+abbrev pub IsMadeOf : Program → EngineParts → ObjectCall → (before after : List Scalar) → Reply → Type 0
+IsMadeOf program parts call before after reply = CallEnds program parts.budget call (map held_of before) (map held_of after) reply

@@ -4,14 +4,14 @@ ghost use Rattle.std.specs.Prelude.{◌≡◌, ◌+◌, ◌*◌, length};
 
 use crate::fitting::do_fit;
 use crate::room::Room;
-use crate::running::{begin, reply_to, run_kept, run_on};
+use crate::running::{begin, reply_to, run_on};
 use ob_checked::checked::Checked;
 use ob_code_correct::well_formed_laws::checked_is_well_formed;
 use ob_code_engine::CodeEngine;
-use ob_code_engine::words::lay;
 use ob_code_machine::Code;
 use ob_interface::NoMemory;
 use ob_interface::call::{Call, Reply};
+use ob_interface::scalar::Scalar;
 use ob_layout::Layout;
 use ob_layout::laws::stacks_are_counted;
 use std::alloc::Global;
@@ -19,8 +19,8 @@ use wf_object::Engine;
 use wf_table::EngineTurn;
 
 /// The code of a module, each call with so many turns.
-#[derive(Drop)]
 pub struct CodeCalls {
+    alloc: Global,
     engine: CodeEngine,
     /// The words of a stack.
     reserve: usize,
@@ -30,10 +30,22 @@ pub struct CodeCalls {
     ghost enough: { most ≡ (engine.parts.budget + 1) * length engine.parts.code.instructions },
 }
 
+/// Written here, so that it is proved here once, and not in each crate that lets one go.
+impl Drop for CodeCalls {
+    fn drop(self) {
+        let CodeCalls {
+            alloc: _,
+            engine: _,
+            reserve: _,
+            most: _,
+        } = self;
+    }
+}
+
 impl CodeCalls {
     ghost use Rattle.std.specs.Prelude.{◌≤◌, IfOk, IsTrue, List};
     ghost use Rattle.ob_checked.specs.CheckedModule.{program_in};
-    ghost use Rattle.ob_code_calls.specs.Calls.{IsMade, block_behind, left_by, meaning_of, paid};
+    ghost use Rattle.ob_code_calls.specs.Calls.{IsMade, IsMadeThrough, asked, block_behind, left_by, meaning_of, paid};
     ghost use Rattle.ob_code_calls.specs.Parts.{parts_in, IsRoomFor};
     ghost use Rattle.ob_code_correct.specs.Compiled.{IsFitting, parts_of};
     ghost use Rattle.ob_code_correct.specs.Parts.{IsCompiledTo, IsLawfulFor};
@@ -41,10 +53,11 @@ impl CodeCalls {
     ghost use Rattle.ob_code_scheme.specs.Layout.{IsEncoding};
     ghost use Rattle.ob_code_scheme.specs.Scheme.{code_of};
     ghost use Rattle.ob_interface.specs.View.{call_of, reply_of};
+    ghost use Rattle.ob_interface.specs.declared.scalar.Scalar as Scalars;
     ghost use Rattle.ob_meaning.specs.ByNameObject.{most_turns};
     ghost use Rattle.ob_meaning.specs.ByPositionStore.{Activation};
     ghost use Rattle.ob_typing.specs.Program.{Program};
-    ghost use Rattle.wf_table.specs.Meaning.{body};
+    ghost use Rattle.wf_table.specs.Meaning.{body, kept};
 
     /// The code of a checked module, by its layout, each call with so many turns.
     pub fn new(
@@ -65,6 +78,7 @@ impl CodeCalls {
         let instructions = code.instructions().len() as u64;
         let engine = CodeEngine::new(alloc, checked, layout, code, budget)?;
         Ok(CodeCalls {
+            alloc,
             engine,
             reserve,
             most: (budget + 1) * instructions,
@@ -79,8 +93,7 @@ impl CodeCalls {
             run: self.engine.new_run(alloc)?,
             reserve: self.reserve,
             call: vec![in alloc; 0; self.engine.announce_words()]?,
-            saved: vec![in alloc; 0; self.engine.variable_words()]?,
-            results: vec![in alloc; 0; self.engine.reply_words() + 1]?,
+            results: vec![in alloc; 0; self.engine.reply_words()]?,
         })
     }
 
@@ -90,50 +103,73 @@ impl CodeCalls {
     {
         room.reserve == self.reserve
             && room.call.len() == self.engine.announce_words()
-            && room.saved.len() == self.engine.variable_words()
-            && room.results.len() == self.engine.reply_words() + 1
+            && room.results.len() == self.engine.reply_words()
     }
 
     /// Whether a call is one of the module's: of an export, and with an argument of its type for each value parameter.
-    pub fn fits(&self, call: &Call) -> bool
-        ensures { IsTrue result → IsFitting (parts_in self.now).exports (call_of call.now) }
+    pub fn fits(&self, proc: usize, arguments: &[Scalar]) -> bool
+        ensures { IsTrue result → IsFitting (parts_in self.now).exports (asked proc arguments.now) }
     {
-        match self.engine.exports().get(call.proc) {
-            Some(export) => do_fit(export.parameters(), call.args.as_slice()),
+        match self.engine.exports().get(proc) {
+            Some(export) => do_fit(export.parameters(), arguments),
             None => false,
         }
     }
 
-    /// A call that is made on the block of a state, and its reply. Where it traps, the block is as it was.
-    pub fn call(&self, room: &mut Room, block: &mut [i64], call: &Call) -> Reply
+    /// The body of a call on a block, from its beginning to where it ends: what its last instruction answers, and how many there were.
+    fn run_through(
+        &self,
+        room: &mut Room,
+        block: &mut [i64],
+        proc: usize,
+        arguments: &[Scalar],
+    ) -> (EngineTurn, u64)
         requires room { IsRoomFor (parts_in self.now) room.old }
-        requires fits { IsFitting (parts_in self.now).exports (call_of call.now) }
+        requires fits { ∥ IsFitting (parts_in self.now).exports (asked proc arguments.now) ∥₁ }
+        requires block { length block.old ≡ (parts_in self.now).variables }
+        ensures room { IsRoomFor (parts_in self.now) room.new }
+        ensures body { record { turn = result.0; run = room.new.run; block = block.new }
+            ≡ body (meaning_of (parts_in self.now)) (paid (parts_in self.now)) block.old (asked proc arguments.now) }
+    {
+        let words = room.call.as_mut_slice();
+        begin(&self.engine, &mut room.run, proc, arguments, words);
+        run_on(&self.engine, &mut room.run, block, self.most)
+    }
+
+    /// A call that is made on the block of a state: the trap with which it ends, if it traps, and how many instructions it took. Where it
+    /// traps, what it has written is left in the block: the words of the state are those that it had before.
+    pub fn make(
+        &self,
+        room: &mut Room,
+        block: &mut [i64],
+        proc: usize,
+        arguments: &[Scalar],
+    ) -> (Option<u8>, u64)
+        requires room { IsRoomFor (parts_in self.now) room.old }
+        requires fits { IsFitting (parts_in self.now).exports (asked proc arguments.now) }
         requires lawful { ∥ IsLawfulFor (parts_in self.now) block.old ∥₁ }
         ensures room { IsRoomFor (parts_in self.now) room.new }
         ensures made { (program : Program) (before : Activation) → IsCompiledTo program (parts_in self.now) → IsEncoding program.variables before block.old
-            → IsMade program (parts_in self.now).budget (call_of call.now) before block.new (reply_of result) }
+            → IsMadeThrough program (parts_in self.now) (asked proc arguments.now) before block.old block.new room.new.run result.0 }
+        ensures left { block.new ≡ left_by (parts_in self.now) block.old (asked proc arguments.now) }
     {
-        let engine = &self.engine;
-        begin(engine, &mut room.run, call, room.call.as_mut_slice());
-        let saved = room.saved.as_mut_slice();
-        match run_kept(engine, &mut room.run, block, saved, self.most) {
-            EngineTurn::Returned => reply_to(engine, &room.run, call, room.results.as_mut_slice()),
-            EngineTurn::Trapped(number) => Reply::Trap(number),
+        let (turn, steps) = self.run_through(room, block, proc, arguments);
+        match turn {
+            EngineTurn::Returned => (None, steps),
+            EngineTurn::Trapped(number) => (Some(number), steps),
             _ => unreachable!(),
         }
     }
 
-    /// The body of a call on a block, from its beginning to where it ends: what its last instruction answers, and how many there were.
-    fn run_through(&self, room: &mut Room, block: &mut [i64], call: &Call) -> (EngineTurn, u64)
+    /// The reply of a call of an export whose body has returned.
+    pub fn reply(&self, room: &mut Room, proc: usize) -> Reply
         requires room { IsRoomFor (parts_in self.now) room.old }
-        requires fits { IsFitting (parts_in self.now).exports (call_of call.now) }
-        requires block { length block.old ≡ (parts_in self.now).variables }
         ensures room { IsRoomFor (parts_in self.now) room.new }
-        ensures body { record { turn = result.0; run = room.new.run; block = block.new }
-            ≡ body (meaning_of (parts_in self.now)) (paid (parts_in self.now)) block.old (call_of call.now) }
+        ensures reply { (arguments : List Scalars.Scalar)
+            → reply_of result ≡ (meaning_of (parts_in self.now)).reply (asked proc arguments) (kept (meaning_of (parts_in self.now)) room.old.run) }
     {
-        begin(&self.engine, &mut room.run, call, room.call.as_mut_slice());
-        run_on(&self.engine, &mut room.run, block, self.most)
+        let words = room.results.as_mut_slice();
+        reply_to(self.alloc, &self.engine, &room.run, proc, words)
     }
 
     /// A call that is made on the block of a state, its reply, and how many instructions it took. Where it traps, what it has written is
@@ -147,14 +183,10 @@ impl CodeCalls {
             → IsMade program (parts_in self.now).budget (call_of call.now) before (block_behind (reply_of result.0) block.old block.new) (reply_of result.0) }
         ensures left { block.new ≡ left_by (parts_in self.now) block.old (call_of call.now) }
     {
-        let (turn, steps) = self.run_through(room, block, call);
-        match turn {
-            EngineTurn::Returned => {
-                let results = room.results.as_mut_slice();
-                (reply_to(&self.engine, &room.run, call, results), steps)
-            }
-            EngineTurn::Trapped(number) => (Reply::Trap(number), steps),
-            _ => unreachable!(),
+        let (trap, steps) = self.make(room, block, call.proc, call.args.as_slice());
+        match trap {
+            Some(number) => (Reply::Trap(number), steps),
+            None => (self.reply(room, call.proc), steps),
         }
     }
 
@@ -166,11 +198,6 @@ impl CodeCalls {
         ensures room { IsRoomFor (parts_in self.now) room.new }
         ensures left { block.new ≡ left_by (parts_in self.now) block.old (call_of call.now) }
     {
-        // The exports stand in memory, so that their numbers are words.
-        let _exports = self.engine.exports();
-        let words = room.call.as_mut_slice();
-        lay(call, words);
-        self.engine.start(&mut room.run, words);
-        let _ = run_on(&self.engine, &mut room.run, block, self.most);
+        let _ = self.run_through(room, block, call.proc, call.args.as_slice());
     }
 }

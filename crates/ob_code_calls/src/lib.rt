@@ -1,7 +1,7 @@
 //! Calls by compiled code, made one at a time on one block of words. No process shares the block, so each is run to its end at once.
 //!
-//! One may rely on the clauses of `CodeCalls` (`specs/Calls.antt`) and `CodedState` (`specs/Standing.antt`): what a call makes of a block, and
-//! what it answers, is what it comes to in the source. What is kept between calls may change without asking.
+//! One may rely on the clauses of `CodeCalls` (`specs/Calls.antt`), `CodedState` (`specs/Standing.antt`) and `ScalarCalls` (`specs/Scalars.antt`):
+//! what a call makes of a block, and what it answers, is what it comes to in the source. What is kept between calls may change without asking.
 #![tactic(auto)]
 
 pub mod calls;
@@ -9,9 +9,11 @@ mod fitting;
 mod noted;
 pub mod room;
 mod running;
+pub mod scalar_calls;
 pub mod scalars;
 pub mod standing_state;
 
 pub use calls::CodeCalls;
 pub use room::Room;
+pub use scalar_calls::ScalarCalls;
 pub use standing_state::CodedState;

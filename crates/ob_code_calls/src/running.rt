@@ -1,27 +1,81 @@
 //! The steps of one body in a row.
 
-ghost use Rattle.std.specs.Prelude.{◌≡◌, ◌+◌, ℕ, length};
-ghost use Rattle.ob_code_calls.specs.Calls.{meaning_of};
+ghost use Rattle.std.specs.Prelude.{◌≡◌, ◌<◌, ◌^◌, ◌∷◌, List, get_or, length, map, option_copied, pos, slice_get};
+ghost use Rattle.std.specs.List.{range_with_len};
+ghost use Rattle.ob_code_calls.specs.Calls.{asked, meaning_of};
+ghost use Rattle.ob_code_correct.specs.CodeMeaning.{laid};
 ghost use Rattle.ob_code_correct.specs.Compiled.{HasReserve, IsFitting};
-ghost use Rattle.ob_interface.specs.View.{call_of, reply_of};
+ghost use Rattle.ob_code_scheme.specs.Layout.{word};
+ghost use Rattle.ob_interface.specs.View.{reply_of};
+ghost use Rattle.ob_interface.specs.declared.scalar.Scalar as Scalars;
+ghost use Rattle.ob_interface.specs.declared.scalar.Scalar.TheVariants.{Int};
 ghost use Rattle.wf_table.specs.Meaning.{kept, steps};
-ghost use Rattle.wf_table.specs.declared.engine_turn.EngineTurn.TheVariants as Turns;
 
-use ob_code_engine::CodeEngine;
+use ob_code_engine::words::reply_in;
+use ob_code_engine::{CodeEngine, Entrance};
 use ob_code_machine::Body;
-use ob_interface::call::{Call, Reply};
+use ob_interface::call::Reply;
+use ob_interface::scalar::Scalar;
+use smallvec::SmallVec;
+use std::alloc::Global;
 use wf_object::Engine;
 use wf_table::EngineTurn;
 
+/// The word of a scalar: TRUE is 1 and FALSE is 0.
+fn word_of(scalar: Scalar) -> i64
+    ensures { result ≡ word scalar }
+{
+    match scalar {
+        Scalar::Int(number) => i64::from(number),
+        Scalar::Bool(truth) => i64::from(truth),
+    }
+}
+
+/// The argument at a place; 0 behind them.
+fn argument_at(arguments: &[Scalar], place: usize) -> Scalar
+    ensures { result ≡ get_or arguments.now place (Int (pos 0)) }
+{
+    arguments.get(place).copied().unwrap_or(Scalar::Int(0))
+}
+
+/// The word of a call at a place: first the number of its export, then its arguments, and then zeros.
+fn word_at(proc: usize, arguments: &[Scalar], place: usize) -> i64
+    requires { proc < 2 ^ 63 }
+    ensures { result ≡ get_or (pos proc ∷ map word arguments.now) place (pos 0) }
+{
+    if place == 0 {
+        return proc as i64;
+    }
+    word_of(argument_at(arguments, place - 1))
+}
+
+/// Writes a call as words.
+fn lay_call(proc: usize, arguments: &[Scalar], words: &mut [i64])
+    requires { proc < 2 ^ 63 }
+    ensures { words.new ≡ laid (length words.old) (asked proc arguments.now) }
+{
+    for place in 0..words.len() {
+        words[place] = word_at(proc, arguments, place);
+    }
+}
+
 /// Begins the body of a call, by the words of which it is written in these.
-pub(crate) fn begin(engine: &CodeEngine, run: &mut Body, call: &Call, words: &mut [i64])
+pub(crate) fn begin(
+    engine: &CodeEngine,
+    run: &mut Body,
+    proc: usize,
+    arguments: &[Scalar],
+    words: &mut [i64],
+)
     requires ready { HasReserve engine.now.parts run.old }
-    requires fits { IsFitting engine.now.parts.exports (call_of call.now) }
+    requires fits { ∥ IsFitting engine.now.parts.exports (asked proc arguments.now) ∥₁ }
     requires room { length words.old ≡ (meaning_of engine.now.parts).arguments }
     ensures ready { HasReserve engine.now.parts run.new }
-    ensures begun { run.new ≡ (meaning_of engine.now.parts).start ((meaning_of engine.now.parts).lay (call_of call.now)) }
+    ensures begun { run.new ≡ (meaning_of engine.now.parts).start ((meaning_of engine.now.parts).lay (asked proc arguments.now)) }
 {
-    engine.lay(call, words);
+    // The exports stand in memory, so that their numbers are words.
+    let _exports = engine.exports();
+    lay_call(proc, arguments, words);
     engine.start(run, words);
 }
 
@@ -54,50 +108,40 @@ pub(crate) fn run_on(
     (engine.step(run, block), most)
 }
 
-/// The same. Where the body traps, the block is as it was: it is kept in other words meanwhile.
-pub(crate) fn run_kept(
-    engine: &CodeEngine,
-    run: &mut Body,
-    block: &mut [i64],
-    saved: &mut [i64],
-    most: u64,
-) -> EngineTurn
-    requires ready { HasReserve engine.now.parts run.old }
-    requires block { length block.old ≡ engine.now.parts.variables }
-    requires room { length saved.old ≡ engine.now.parts.variables }
-    ensures ready { HasReserve engine.now.parts run.new }
-    ensures turn { result ≡ (steps (meaning_of engine.now.parts) most run.old block.old).turn }
-    ensures run { run.new ≡ (steps (meaning_of engine.now.parts) most run.old block.old).run }
-    ensures returned { result ≡ Turns.Returned → block.new ≡ (steps (meaning_of engine.now.parts) most run.old block.old).block }
-    ensures trapped { (number : ℕ) → result ≡ Turns.Trapped number → block.new ≡ block.old }
-{
-    saved.copy_from_slice(block);
-    let (turn, _) = run_on(engine, run, block, most);
-    if let EngineTurn::Trapped(_) = turn {
-        block.copy_from_slice(saved);
-    }
-    turn
-}
-
-/// Writes the words of a body that has returned: the status of a return, and its results.
+/// Writes the words of the results of a body that has returned.
 fn note_results(engine: &CodeEngine, run: &Body, words: &mut [i64])
     requires ready { HasReserve engine.now.parts run.now }
-    requires room { length words.old ≡ (meaning_of engine.now.parts).replies + 1 }
-    ensures { words.new ≡ kept (meaning_of engine.now.parts) run.now }
+    requires room { length words.old ≡ (meaning_of engine.now.parts).replies }
+    ensures { words.new ≡ map ((meaning_of engine.now.parts).result run.now) (range_with_len 0 (meaning_of engine.now.parts).replies) }
 {
-    words[0] = 0;
-    for place in 0..engine.reply_words() {
-        words[place + 1] = engine.result(run, place);
+    for place in 0..words.len() {
+        words[place] = engine.result(run, place);
     }
 }
 
-/// The reply to a call whose body has returned.
-pub(crate) fn reply_to(engine: &CodeEngine, run: &Body, call: &Call, words: &mut [i64]) -> Reply
+/// The export of a number.
+fn export_at(engine: &CodeEngine, proc: usize) -> Option<&Entrance>
+    ensures { option_copied result ≡ slice_get engine.now.parts.exports proc }
+{
+    engine.exports().get(proc)
+}
+
+/// The reply to a call of an export whose body has returned.
+pub(crate) fn reply_to(
+    alloc: Global,
+    engine: &CodeEngine,
+    run: &Body,
+    proc: usize,
+    words: &mut [i64],
+) -> Reply
     requires ready { HasReserve engine.now.parts run.now }
-    requires fits { IsFitting engine.now.parts.exports (call_of call.now) }
-    requires room { length words.old ≡ (meaning_of engine.now.parts).replies + 1 }
-    ensures { reply_of result ≡ (meaning_of engine.now.parts).reply (call_of call.now) (kept (meaning_of engine.now.parts) run.now) }
+    requires room { length words.old ≡ (meaning_of engine.now.parts).replies }
+    ensures { (arguments : List Scalars.Scalar)
+        → reply_of result ≡ (meaning_of engine.now.parts).reply (asked proc arguments) (kept (meaning_of engine.now.parts) run.now) }
 {
     note_results(engine, run, words);
-    engine.reply(call, words)
+    match export_at(engine, proc) {
+        Some(export) => reply_in(alloc, export.parameters(), words),
+        None => Reply::Done(SmallVec::new(alloc)),
+    }
 }

@@ -1,45 +1,40 @@
-use Rattle.std.proofs.Common.{refl, sym, ap, subst, ◌∙◌, List}
-use Rattle.std.specs.Prelude.{ℤ}
-use Rattle.ob_code_machine.specs.Body.{Run}
-use Rattle.ob_interface.specs.Call.{Reply}
-use Rattle.ob_interface.specs.View.{call_of, reply_of}
-use Rattle.wf_table.specs.Meaning.{Turned, body}
-use Rattle.ob_code_calls.specs.Calls.{IsMade, block_behind, meaning_of, paid}
-use Rattle.ob_code_calls.proofs.Ended.{ended_one, length_is, made_returned, made_trapped}
+use Rattle.std.proofs.Common.{sym, ap, subst, ◌∙◌, List}
+use Rattle.ob_interface.specs.Call.{ObjectCall, Trapped}
+use Rattle.ob_interface.specs.View.{reply_of}
+use Rattle.ob_interface.specs.declared.scalar.Scalar.{Scalar}
+use Rattle.ob_code_calls.specs.Calls.{IsMade, asked, block_behind, left_by}
+use Rattle.ob_code_calls.proofs.OnScalars.{through_returned, through_trapped}
 use Rattle.ob_code_calls.proofs.calls.CodeCalls.call_through.Goals as goal
+use Rattle.ob_code_correct.specs.Compiled.{IsFitting}
 
-pub run_through-turn-requires-clause-block : goal.run_through-turn-requires-clause-block
-run_through-turn-requires-clause-block c = length_is c.args.self.now.engine.parts c.args.block.now c.requires.lawful
+pub make-trap-requires-clause-fits : goal.make-trap-requires-clause-fits
+make-trap-requires-clause-fits c =
+    subst (λ (xs : List Scalar). IsFitting c.args.self.now.engine.parts.exports (asked c.args.call.now.proc xs)) (sym c.as_slice.ensures) c.requires.fits
 
-pub unreachable-requires : goal.unreachable-requires
-unreachable-requires c =
+pub returns-in-Some-clause-made : goal.returns-in-Some-clause-made
+returns-in-Some-clause-made c = λ program before compiled encodes.
     let parts = c.args.self.now.engine.parts in
-    let call = call_of c.args.call.now in
-    ended_one parts c.args.block.now c.requires.lawful call c.requires.fits c.run_through-turn.result.0 (sym (ap (λ (t : Turned Run). t.turn) c.run_through-turn.ensures.body))
-    c.in_default.not-Returned c.in_default.not-Trapped
-
-pub returns-in-Returned-clause-made : goal.returns-in-Returned-clause-made
-returns-in-Returned-clause-made c = λ program before compiled encodes.
-    let parts = c.args.self.now.engine.parts in
-    let call = call_of c.args.call.now in
+    let call = asked c.args.call.now.proc c.as_slice.result.now in
     let block = c.args.block.now in
-    let left = c.run_through-turn.new.block in
-    let b = c.run_through-turn.ensures.body in
-    subst (λ (ws : List ℤ). IsMade program parts.budget call before ws (reply_of c.reply_to.result)) (sym (ap (λ (r : Reply). block_behind r block left) c.reply_to.ensures))
-    (made_returned program parts compiled call c.requires.fits before block encodes (body (meaning_of parts) (paid parts) block call) refl
-    (sym c.in-Returned.is ∙ ap (λ (t : Turned Run). t.turn) b) c.run_through-turn.new.room.run (ap (λ (t : Turned Run). t.run) b) left (ap (λ (t : Turned Run). t.block) b) _ c.reply_to.ensures)
+    let number = c.in-Some.number in
+    subst (λ (x : ObjectCall). IsMade program parts.budget x before block (Trapped number)) (ap (asked c.args.call.now.proc) c.as_slice.ensures)
+    (through_trapped program parts call before block c.make-trap.new.block c.make-trap.new.room.run _ number c.in-Some.is (c.make-trap.ensures.made program before compiled encodes))
 
-pub returns-in-Trapped-clause-made : goal.returns-in-Trapped-clause-made
-returns-in-Trapped-clause-made c = λ program before compiled encodes.
+pub returns-in-None-clause-made : goal.returns-in-None-clause-made
+returns-in-None-clause-made c = λ program before compiled encodes.
     let parts = c.args.self.now.engine.parts in
-    let call = call_of c.args.call.now in
+    let call = asked c.args.call.now.proc c.as_slice.result.now in
     let block = c.args.block.now in
-    let b = c.run_through-turn.ensures.body in
-    made_trapped program parts compiled call c.requires.fits before block encodes (body (meaning_of parts) (paid parts) block call) refl c.in-Trapped.number
-    (sym c.in-Trapped.is ∙ ap (λ (t : Turned Run). t.turn) b) block refl
+    let left = c.make-trap.new.block in
+    let reply = reply_of c.reply.result in
+    subst (λ (x : ObjectCall). IsMade program parts.budget x before (block_behind reply block left) reply) (ap (asked c.args.call.now.proc) c.as_slice.ensures)
+    (through_returned program parts call before block left c.make-trap.new.room.run _ c.in-None.is (c.make-trap.ensures.made program before compiled encodes) reply
+    (c.reply.ensures.reply c.as_slice.result.now))
 
-pub returns-in-Returned-clause-left : goal.returns-in-Returned-clause-left
-returns-in-Returned-clause-left c = ap (λ (t : Turned Run). t.block) c.run_through-turn.ensures.body
+pub returns-in-Some-clause-left : goal.returns-in-Some-clause-left
+returns-in-Some-clause-left c =
+    c.make-trap.ensures.left ∙ ap (λ (xs : List Scalar). left_by c.args.self.now.engine.parts c.args.block.now (asked c.args.call.now.proc xs)) c.as_slice.ensures
 
-pub returns-in-Trapped-clause-left : goal.returns-in-Trapped-clause-left
-returns-in-Trapped-clause-left c = ap (λ (t : Turned Run). t.block) c.run_through-turn.ensures.body
+pub returns-in-None-clause-left : goal.returns-in-None-clause-left
+returns-in-None-clause-left c =
+    c.make-trap.ensures.left ∙ ap (λ (xs : List Scalar). left_by c.args.self.now.engine.parts c.args.block.now (asked c.args.call.now.proc xs)) c.as_slice.ensures

@@ -1,0 +1,73 @@
+-- Calls on the block of a state, and calls on scalars.
+use Rattle.std.proofs.Common.{◌≡◌, ◌∙◌, ap, sym, subst, ℕ, List, map, Option, Some, None}
+use Rattle.std.specs.Prelude.{ℤ, IfSome}
+use Rattle.std.proofs.Math.Logic.{∥∥₁_map}
+use Rattle.std.proofs.lemmas.Option.{same_Some}
+use Rattle.ob_checked.specs.Types.{Entry}
+use Rattle.ob_checked.specs.View.{variable_of}
+use Rattle.ob_checked.specs.declared.program.Variable as Declared
+use Rattle.ob_code_calls.specs.Calls.{IsMade, IsMadeThrough, block_behind, meaning_of}
+use Rattle.ob_code_calls.specs.Scalars.{IsCodeWith, IsMadeOf, held_of}
+use Rattle.ob_code_correct.proofs.CodeLaw.{lawful_decoded}
+use Rattle.ob_code_correct.specs.CodeMeaning.{EngineParts}
+use Rattle.ob_code_correct.specs.Parts.{IsLawfulFor}
+use Rattle.ob_code_machine.specs.Body.{Run}
+use Rattle.ob_code_scheme.specs.Layout.{IsEncoding, decoded}
+use Rattle.ob_interface.specs.Call.{ObjectCall, Reply, Trapped}
+use Rattle.ob_interface.specs.declared.scalar.Scalar.{Scalar}
+use Rattle.ob_meaning.specs.ByPositionObject.{effect}
+use Rattle.ob_meaning.specs.ByPositionStore.{Activation}
+use Rattle.ob_typing.specs.Program.{Program, Variable}
+use Rattle.wf_table.specs.Meaning.{kept}
+
+pub some_at : {A : Type 0} (o : Option A) (x : A) (P : A → Type 0) → o ≡ Some x → IfSome o P → P x
+some_at {A} o x P e h = subst (λ (q : Option A). IfSome q P) e h
+
+module _ (program : Program) (parts : EngineParts) (call : ObjectCall) (before : Activation) (block left : List ℤ) (run : Run) where
+  -- where the body has returned
+  pub through_left : (o : Option ℕ) → o ≡ None → IsMadeThrough program parts call before block left run o → (reply : Reply) →
+      reply ≡ (meaning_of parts).reply call (kept (meaning_of parts) run) → IsMade program parts.budget call before left reply
+  through_left o none made reply is =
+      subst (λ (r : Reply). IsMade program parts.budget call before left r) (sym is)
+      (subst (λ (t : Option ℕ). IsMadeThrough program parts call before block left run t) none made)
+
+  pub through_returned : (o : Option ℕ) → o ≡ None → IsMadeThrough program parts call before block left run o → (reply : Reply) →
+      reply ≡ (meaning_of parts).reply call (kept (meaning_of parts) run) → IsMade program parts.budget call before (block_behind reply block left) reply
+  through_returned o none made reply is =
+      subst (λ (r : Reply). IsMade program parts.budget call before (block_behind r block left) r) (sym is)
+      (subst (λ (t : Option ℕ). IsMadeThrough program parts call before block left run t) none made)
+
+  -- and where it traps
+  pub through_trapped : (o : Option ℕ) (k : ℕ) → o ≡ Some k → IsMadeThrough program parts call before block left run o → IsMade program parts.budget call before block (Trapped k)
+  through_trapped o k some made = subst (λ (t : Option ℕ). IsMadeThrough program parts call before block left run t) some made
+
+module _ (parts : EngineParts) (variables : List Declared.Variable) (scalars : List Scalar) (block : List ℤ)
+    (laid : (types : List Entry) → IsEncoding (map (variable_of types) variables) (map held_of scalars) block) where
+  -- the block of scalars is lawful
+  pub lawful_scalars : ∥ IsCodeWith variables parts ∥₁ → ∥ IsLawfulFor parts block ∥₁
+  lawful_scalars code =
+      ∥∥₁_map code (λ h. record {
+        program = h.program;
+        compiled = h.compiled;
+        is = record { state = map held_of scalars; encodes = subst (λ (vs : List Variable). IsEncoding vs (map held_of scalars) block) h.are (laid h.types) };
+      })
+
+  -- what is made of it, and read from it again, is what the call comes to
+  pub made_of : (program : Program) (types : List Entry) → map (variable_of types) variables ≡ program.variables → (call : ObjectCall) (behind : List ℤ) (after : List Scalar) (reply : Reply) →
+      (IsEncoding program.variables (map held_of scalars) block → IsMade program parts.budget call (map held_of scalars) behind reply) →
+      decoded (map (variable_of types) variables) behind ≡ Some (map held_of after) → IsMadeOf program parts call scalars after reply
+  made_of program types are call behind after reply made read =
+      let encodes = subst (λ (vs : List Variable). IsEncoding vs (map held_of scalars) block) are (laid types) in
+      let m = made encodes in
+      let e = effect program call parts.budget (map held_of scalars) in
+      let state : e.state ≡ map held_of after =
+      same_Some _ _ (sym (lawful_decoded program behind e.state m.block_is) ∙ ap (λ (vs : List Variable). decoded vs behind) (sym are) ∙ read) in
+      ap (λ (s : Activation). record { state = s; reply = e.reply }) state
+      ∙ ap (λ (r : Reply). record { state = map held_of after; reply = r }) m.reply_is
+
+  -- also where it is left as it was
+  pub same_of : (program : Program) (types : List Entry) → map (variable_of types) variables ≡ program.variables →
+      decoded (map (variable_of types) variables) block ≡ Some (map held_of scalars)
+  same_of program types are =
+      let encodes = subst (λ (vs : List Variable). IsEncoding vs (map held_of scalars) block) are (laid types) in
+      ap (λ (vs : List Variable). decoded vs block) are ∙ lawful_decoded program block (map held_of scalars) encodes

@@ -1,0 +1,124 @@
+//! Calls by code on states whose variables are all scalars, each from a state that is given.
+
+ghost use Rattle.std.specs.Prelude.{◌≡◌};
+ghost use Rattle.ob_code_calls.specs.Parts.{parts_in};
+
+use crate::scalars::{Scalars, lay_scalars, read_scalars};
+use crate::{CodeCalls, Room};
+use ob_checked::program::Variable;
+use ob_interface::NoMemory;
+use ob_interface::call::Reply;
+use ob_interface::scalar::Scalar;
+use smallvec::SmallVec;
+use std::alloc::Global;
+use std::cell::Cell;
+
+/// What a call works in: room, and the words of the variables.
+#[derive(Drop)]
+struct Work {
+    room: Room,
+    block: Vec<i64>,
+}
+
+/// Calls by the code of a module, and what they work in. That is lent to one call at a time; what finds none makes another one.
+pub struct ScalarCalls {
+    alloc: Global,
+    calls: CodeCalls,
+    words: usize,
+    // A box: to lend it and to take it back moves one word.
+    work: Cell<Option<Box<Work>>>,
+}
+
+/// Written here, so that it is proved here once, and not in each crate that lets one go.
+impl Drop for ScalarCalls {
+    fn drop(self) {
+        let ScalarCalls {
+            alloc: _,
+            calls: _,
+            words: _,
+            work: _,
+        } = self;
+    }
+}
+
+impl ScalarCalls {
+    ghost use Rattle.std.specs.Prelude.{List, IfOk, IfSome, map};
+    ghost use Rattle.ob_checked.specs.Types.{Entry};
+    ghost use Rattle.ob_checked.specs.View.{variable_of};
+    ghost use Rattle.ob_code_calls.specs.Calls.{asked};
+    ghost use Rattle.ob_code_calls.specs.Parts.{IsRoomFor};
+    ghost use Rattle.ob_code_calls.specs.Scalars.{IsCodeWith, IsMadeOf};
+    ghost use Rattle.ob_code_correct.specs.Parts.{IsCompiledTo};
+    ghost use Rattle.ob_interface.specs.View.{reply_of};
+    ghost use Rattle.ob_typing.specs.Program.{Program};
+
+    /// Calls of this code, on states of so many words.
+    pub fn new(alloc: Global, calls: CodeCalls, words: usize) -> ScalarCalls
+        ensures { parts_in result.calls ≡ parts_in calls }
+    {
+        ScalarCalls {
+            alloc,
+            calls,
+            words,
+            work: Cell::new(None),
+        }
+    }
+
+    /// What a call can work in.
+    fn work(&self) -> Result<Box<Work>, NoMemory>
+        ensures { IfOk result (λ work. IsRoomFor (parts_in self.now.calls) work.value.room) }
+    {
+        if let Some(work) = self.work.take() {
+            if self.calls.has_room(&work.room) {
+                return Ok(work);
+            }
+        }
+        self.new_work()
+    }
+
+    /// The same, made anew.
+    #[cold]
+    #[inline(never)]
+    fn new_work(&self) -> Result<Box<Work>, NoMemory>
+        ensures { IfOk result (λ work. IsRoomFor (parts_in self.now.calls) work.value.room) }
+    {
+        let room = self.calls.room(self.alloc)?;
+        let block = vec![in self.alloc; 0; self.words]?;
+        Ok(Box::new(self.alloc, Work { room, block })?)
+    }
+
+    /// What a call makes of variables with these values, and what it answers; nothing where the values or the call are none of the module.
+    pub fn called(
+        &self,
+        variables: &[Variable],
+        scalars: &[Scalar],
+        proc: usize,
+        arguments: &[Scalar],
+    ) -> Result<Option<(Scalars, Reply)>, NoMemory>
+        requires { ∥ IsCodeWith variables.now (parts_in self.now.calls) ∥₁ }
+        ensures { (program : Program) (types : List Entry) → IsCompiledTo program (parts_in self.now.calls) → map (variable_of types) variables.now ≡ program.variables
+            → IfOk result (λ o. IfSome o (λ made. IsMadeOf program (parts_in self.now.calls) (asked proc arguments.now) scalars.now made.0.items (reply_of made.1))) }
+    {
+        if !self.calls.fits(proc, arguments) {
+            return Ok(None);
+        }
+        let mut work = self.work()?;
+        let here = &mut *work;
+        let block = here.block.as_mut_slice();
+        if !lay_scalars(variables, scalars, block) {
+            return Ok(None);
+        }
+        let (trap, _) = self.calls.make(&mut here.room, block, proc, arguments);
+        if let Some(number) = trap {
+            let same = SmallVec::from_slice(self.alloc, scalars)?;
+            self.work.set(Some(work));
+            return Ok(Some((same, Reply::Trap(number))));
+        }
+        let Some(after) = read_scalars(self.alloc, variables, block)? else {
+            return Ok(None);
+        };
+        let reply = self.calls.reply(&mut here.room, proc);
+        self.work.set(Some(work));
+        Ok(Some((after, reply)))
+    }
+}
