@@ -5,6 +5,7 @@ use Rattle.ob_interface.specs.Call.{ObjectCall, Reply}
 use Rattle.ob_interface.specs.Processes.{most_processes}
 use Rattle.ob_object_run.specs.LegalOrder.{CallEnds}
 use Rattle.ob_object_search.specs.Found.{IsFaultHere}
+pub use Rattle.ob_object_search.specs.Objects.{effect_in, opening_in}
 use Rattle.ob_object_search.specs.Searched.{HasBeginning, budget_of}
 use Rattle.ob_object_search.specs.declared.instance.ModuleObject.{ModuleObject}
 use Rattle.ob_object_search.specs.declared.searching.SearchFault.{SearchFault}
@@ -12,7 +13,6 @@ use Rattle.ob_object_search.specs.declared.searching.SearchFault.TheVariants as 
 use Rattle.ob_object_draw.specs.declared.showing.Shown.{Shown}
 use Rattle.ob_object_calls.specs.Beginnings.{BeginsPlaced}
 use Rattle.ob_meaning.specs.ByPositionStore.{Activation}
-use Rattle.ob_store.specs.View.{state_of}
 use Rattle.ob_typing.specs.Program.{Program}
 use Rattle.wf_order.specs.Beginnings.{process_count}
 use Rattle.wf_history.specs.History.{Event, End}
@@ -55,12 +55,6 @@ pub record Shows (program : Program) (text : List ℕ) (asked : Option ℕ) (s :
   pub within : s.part.count ≤ length s.events
 
 -- ---- what is found of the object of a module
-
-abbrev pub effect_in : ModuleObject → ObjectCall → Activation → Activation → Reply → Type 0
-effect_in o = CallEnds (program_in o.checked.now) o.budget
-
-abbrev pub opening_in : ModuleObject → Activation
-opening_in o = state_of o.opening.now
 
 abbrev pub IsLegalIn : ModuleObject → List (Event ObjectCall Reply) → List CallId → Type 0
 IsLegalIn o events order = (last : Activation) × IsLegal (effect_in o) (opening_in o) events order last

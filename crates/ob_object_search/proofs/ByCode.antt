@@ -1,23 +1,22 @@
--- What code makes of a block of scalars is what the call makes of their state.
+-- What code makes of scalars is what the call makes of their state.
 use Rattle.std.proofs.Common.{◌≡◌, ◌∙◌, ap, refl, sym, subst, ℕ, List, [], ◌∷◌, map, Some, arith}
-use Rattle.std.specs.Prelude.{ℤ, Option, IfSome}
-use Rattle.std.specs.Coded.{Coded, Coded-set, coded×, coded_list, coded_ℕ}
-use Rattle.std.proofs.Math.Logic.{∥∥₁_elim, ∥∥₁_map}
-use Rattle.std.proofs.lemmas.Option.{same_Some}
+use Rattle.std.specs.Prelude.{Option, IfSome}
+use Rattle.std.specs.Coded.{Coded, coded×, coded_list, coded_ℕ}
+use Rattle.std.proofs.Math.Logic.{∥∥₁_map}
 use base.Stored.{coded_via}
-use Rattle.ob_code_calls.specs.Calls.{IsMade}
-use Rattle.ob_code_correct.proofs.CodeLaw.{lawful_decoded}
+use Rattle.ob_code_calls.specs.Parts.{parts_in}
+use Rattle.ob_code_calls.specs.Scalars.{IsMadeOf, held_of}
+use Rattle.ob_code_calls.specs.declared.scalar_calls.ScalarCalls.{ScalarCalls}
 use Rattle.ob_code_correct.specs.CodeMeaning.{EngineParts}
 use Rattle.ob_code_correct.specs.Compiled.{parts_of}
-use Rattle.ob_code_correct.specs.Parts.{IsCompiledTo, IsLawfulFor}
-use Rattle.ob_code_scheme.specs.Layout.{decoded, IsEncoding}
 use Rattle.ob_code_scheme.specs.WellFormed.{IsWellFormed}
+use Rattle.ob_object_search.specs.Code.{HasCode}
 use Rattle.ob_interface.specs.Call.{ObjectCall, Reply, Answers, Trapped}
 use Rattle.ob_interface.specs.declared.scalar.Scalar.{Scalar}
 use Rattle.ob_object_run.specs.LegalOrder.{CallEnds}
 use Rattle.ob_object_search.specs.Laws.{scalar_apart, words_told_apart}
 use Rattle.ob_object_search.specs.Words.{word_of, words_of}
-use Rattle.ob_meaning.specs.ByPositionObject.{Effect, effect}
+use Rattle.ob_meaning.specs.ByPositionObject.{Effect}
 use Rattle.ob_meaning.specs.ByPositionStore.{Activation}
 use Rattle.ob_typing.specs.Program.{Program}
 use Rattle.ob_checked.specs.View.{program_of, table_of, variable_of}
@@ -71,25 +70,18 @@ some_at {A} o x P e h = subst (λ (q : Option A). IfSome q P) e h
 
 -- ---- the code of a program
 
-module _ (program : Program) (budget : ℕ) (parts : EngineParts) (well : ∥ IsWellFormed program ∥₁) (are : parts ≡ parts_of program budget) where
-  its_budget : parts.budget ≡ budget
-  its_budget = ap (λ (q : EngineParts). q.budget) are
+module _ (program : Program) (parts : EngineParts) (budget : ℕ) where
+  -- its parts are the program's, with this budget
+  pub has_code : (code : ScalarCalls) → parts_in code.calls ≡ parts → parts ≡ parts_of program budget → ∥ IsWellFormed program ∥₁ → ∥ HasCode program budget code ∥₁
+  has_code code same are well =
+      let whole = same ∙ are in
+      let turns = ap (λ (q : EngineParts). q.budget) whole in
+      ∥∥₁_map well (λ w. record { compiled = record { well = w; parts_are = whole ∙ ap (parts_of program) (sym turns) }; turns = turns })
 
-  compiled : IsWellFormed program → IsCompiledTo program parts
-  compiled w = record { well = w; parts_are = are ∙ ap (parts_of program) (sym its_budget) }
-
-  -- the block of a state is lawful
-  pub lawful : (state : Activation) (block : List ℤ) → IsEncoding program.variables state block → ∥ IsLawfulFor parts block ∥₁
-  lawful state block encodes = ∥∥₁_map well (λ w. record { program = program; compiled = compiled w; is = record { state = state; encodes = encodes } })
-
-  -- what is made of the block, and read from it again, is what the call comes to
-  pub ends_so : (call : ObjectCall) (before after : Activation) (laid block : List ℤ) (reply : Reply) → IsEncoding program.variables before laid →
-      ((p : Program) (state : Activation) → IsCompiledTo p parts → IsEncoding p.variables state laid → IsMade p parts.budget call state block reply) →
-      decoded program.variables block ≡ Some after → CallEnds program budget call before after reply
-  ends_so call before after laid block reply encodes made read =
-      ∥∥₁_elim well (Coded-set coded_effect (effect program call budget before) (record { state = after; reply = reply })) (λ w.
-      let m = made program before (compiled w) encodes in
-      let n = subst (λ (b : ℕ). IsMade program b call before block reply) its_budget m in
-      let state : (effect program call budget before).state ≡ after = same_Some _ _ (sym (lawful_decoded program block (effect program call budget before).state n.block_is) ∙ read) in
-      ap (λ (s : Activation). record { state = s; reply = (effect program call budget before).reply }) state
-      ∙ ap (λ (r : Reply). record { state = after; reply = r }) n.reply_is)
+  -- what it makes of scalars is what the call of the history comes to
+  pub leads : parts.budget ≡ budget → (asked call : ObjectCall) → asked ≡ call → (scalars after : List Scalar) (reply : Reply) → (state : Activation) → map held_of scalars ≡ state →
+      IsMadeOf program parts asked scalars after reply → CallEnds program budget call state (map held_of after) reply
+  leads turns asked call same scalars after reply state is made =
+      subst (λ (b : ℕ). CallEnds program b call state (map held_of after) reply) turns
+      (subst (λ (x : ObjectCall). CallEnds program parts.budget x state (map held_of after) reply) same
+      (subst (λ (s : Activation). CallEnds program parts.budget asked s (map held_of after) reply) is made))

@@ -6,6 +6,7 @@ pub mod Heard
 pub mod NumberedParts
 pub mod Kept
 pub mod Laws
+pub mod Objects
 pub mod Parted
 pub mod PartedFaults
 pub mod RecordingFaults

@@ -99,19 +99,15 @@ fn numbered(names: &[usize], id: CallId) -> CallId {
 /// Adds a reply that is not there yet.
 fn push_new(replies: &mut Vec<Reply>, reply: Reply) -> Result<(), NoMemory> {
     for other in &*replies {
-        if is_same(other, &reply) {
+        let is_there = match (other, &reply) {
+            (Reply::Done(others), Reply::Done(values)) => others.as_slice() == values.as_slice(),
+            (Reply::Trap(other), Reply::Trap(number)) => *other == *number,
+            _ => false,
+        };
+        if is_there {
             return Ok(());
         }
     }
     replies.push(reply)?;
     Ok(())
-}
-
-/// Whether two replies are the same.
-fn is_same(reply: &Reply, other: &Reply) -> bool {
-    match (reply, other) {
-        (Reply::Done(values), Reply::Done(others)) => values.as_slice() == others.as_slice(),
-        (Reply::Trap(number), Reply::Trap(other)) => *number == *other,
-        _ => false,
-    }
 }

@@ -1,6 +1,6 @@
 //! Where a call ends.
 
-ghost use Rattle.std.specs.Prelude.{◌≡◌, ◌↔◌, IsTrue, MatchOption, Some, map, slice_get};
+ghost use Rattle.std.specs.Prelude.{◌≡◌, MatchOption, Some, map, slice_get};
 ghost use Rattle.ob_interface.specs.Call.{Reply};
 ghost use Rattle.ob_object_search.specs.EndEvidence.{EndsNowhere};
 ghost use Rattle.ob_text_reading.specs.Names.{named, named_all, named_id};
@@ -29,14 +29,7 @@ fn end_at(names: &[usize], event: &Event, id: CallId) -> Option<CallId>
         (λ end. (named_id names.now end ≡ id) × (reply : Reply) × (event_of event.now ≡ End end reply)) }
 {
     match event.seen() {
-        SeenEvent::End(end, _) if is_same(named(names, end), id) => Some(end),
+        SeenEvent::End(end, _) if named(names, end) == id => Some(end),
         _ => None,
     }
-}
-
-/// Whether two names are of one call.
-fn is_same(id: CallId, other: CallId) -> bool
-    ensures { IsTrue result ↔ (id ≡ other) }
-{
-    id == other
 }

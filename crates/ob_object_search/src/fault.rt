@@ -5,7 +5,6 @@ use ob_interface::NoMemory;
 use ob_interface::scalar::Scalar;
 use ob_mean::openings::OpenFault;
 use ob_text_reading::RecordFault;
-use std::alloc::AllocError;
 use wf_history::CallId;
 
 /// Why there are no orders.
@@ -76,17 +75,6 @@ impl From<NoMemory> for PartsFault {
     ghost from_gives = { λ _ e. e ≡ Faults.NoMemory };
 
     fn from(_: NoMemory) -> PartsFault {
-        PartsFault::NoMemory
-    }
-}
-
-impl From<AllocError> for PartsFault {
-    ghost use Rattle.std.specs.Prelude.{◌≡◌};
-    ghost use Rattle.ob_object_search.specs.declared.fault.PartsFault.TheVariants as Faults;
-
-    ghost from_gives = { λ _ e. e ≡ Faults.NoMemory };
-
-    fn from(_: AllocError) -> PartsFault {
         PartsFault::NoMemory
     }
 }

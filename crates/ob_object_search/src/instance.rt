@@ -4,17 +4,15 @@ ghost use Rattle.std.specs.Prelude.{◌≡◌, IfOk};
 ghost use Rattle.ob_checked.specs.CheckedModule.{program_in};
 ghost use Rattle.ob_interface.specs.View as Objects;
 ghost use Rattle.ob_mean.specs.View.{call_of, reply_of};
-ghost use Rattle.ob_object_run.specs.LegalOrder.{CallEnds};
 ghost use Rattle.ob_carry.specs.ReadOnly.{TellsReadOnly};
 ghost use Rattle.ob_object_search.specs.Code.{IsCodeOf};
-ghost use Rattle.ob_object_search.specs.Kept.{kept_in};
-ghost use Rattle.ob_store.specs.View.{state_of};
 ghost use Rattle.wf_history.specs.View.{seen_call};
 
+use crate::coding::module_code;
 use crate::kept::{KeptState, kept};
-use crate::scalar_calls::{ModuleCode, module_code};
 use ob_carry::exports::read_only_exports;
 use ob_checked::checked::Checked;
+use ob_code_calls::ScalarCalls;
 use ob_interface::NoMemory;
 use ob_interface::call::Reply;
 use ob_mean::call as interpreter;
@@ -35,7 +33,7 @@ pub struct ModuleObject<'a> {
     /// Of each export, whether it is known to change no variable of the module.
     read_only: Vec<bool>,
     /// The code of its calls, where there is any.
-    code: Option<ModuleCode>,
+    code: Option<ScalarCalls>,
     ghost coded: { ∥ IsCodeOf (program_in checked.now) budget code ∥₁ },
     ghost tells: { ∥ TellsReadOnly (program_in checked.now) read_only.items ∥₁ },
 }
@@ -98,49 +96,11 @@ fn object_reply(alloc: Global, reply: &interpreter::Reply) -> Result<Reply, Allo
     }
 }
 
-/// What a call with so many turns makes of a state, and what it answers, by the interpreter.
-fn called(
-    alloc: Global,
-    checked: &Checked,
-    before: State,
-    call: SeenCall,
-    budget: u64,
-) -> Result<(State, Reply), NoMemory>
-    ensures { IfOk result (λ made. CallEnds (program_in checked.now) budget (seen_call call.entry) (state_of before) (state_of made.0) (Objects.reply_of made.1)) }
-{
-    let call = call_in(alloc, call)?;
-    let (next, reply) = step(alloc, checked.program(), before, &call, budget)?;
-    let given = object_reply(alloc, &reply)?;
-    Ok((next, given))
-}
-
 impl<'a> ModuleObject<'a> {
-    ghost use Rattle.std.specs.Prelude.{◌≡◌, IfOk, IfSome, map};
-    ghost use Rattle.ob_checked.specs.CheckedModule.{program_in};
-    ghost use Rattle.ob_object_run.specs.LegalOrder.{CallEnds};
-    ghost use Rattle.ob_object_search.specs.Kept.{kept_in};
+    ghost use Rattle.std.specs.Prelude.{IfOk};
+    ghost use Rattle.ob_object_search.specs.Objects.{LeadsTo};
     ghost use Rattle.ob_interface.specs.View as Objects;
     ghost use Rattle.wf_history.specs.View.{seen_call};
-
-    /// What a call makes of a state by the module's code, and what it answers; nothing where there is no code for it.
-    fn called_by_code(
-        &self,
-        state: &KeptState,
-        call: SeenCall,
-    ) -> Result<Option<(KeptState, Reply)>, NoMemory>
-        ensures { IfOk result (λ o. IfSome o (λ made. CallEnds (program_in self.now.checked.now) self.now.budget (seen_call call.entry) (kept_in state.now) (kept_in made.0) (Objects.reply_of made.1))) }
-    {
-        let Some(code) = &self.code else {
-            return Ok(None);
-        };
-        let KeptState::Scalars(scalars) = state else {
-            return Ok(None);
-        };
-        match code.called(self.checked, scalars.as_slice(), call)? {
-            Some(made) => Ok(Some((KeptState::Scalars(made.scalars), made.reply))),
-            None => Ok(None),
-        }
-    }
 
     /// What a call makes of a state by the interpreter, and what it answers. It stands apart, so that a call by code makes no room for it.
     #[inline(never)]
@@ -150,11 +110,13 @@ impl<'a> ModuleObject<'a> {
         state: &KeptState,
         call: SeenCall,
     ) -> Result<(KeptState, Reply), NoMemory>
-        ensures { IfOk result (λ made. CallEnds (program_in self.now.checked.now) self.now.budget (seen_call call.entry) (kept_in state.now) (kept_in made.0) (Objects.reply_of made.1)) }
+        ensures { IfOk result (λ made. LeadsTo self.now (seen_call call.entry) state.now made.0 (Objects.reply_of made.1)) }
     {
         let before = state.state(alloc)?;
-        let (next, reply) = called(alloc, self.checked, before, call, self.budget)?;
-        Ok((kept(alloc, next.into_values())?, reply))
+        let call = call_in(alloc, call)?;
+        let (next, reply) = step(alloc, self.checked.program(), before, &call, self.budget)?;
+        let given = object_reply(alloc, &reply)?;
+        Ok((kept(alloc, next.into_values())?, given))
     }
 }
 
@@ -190,8 +152,16 @@ impl<'a> Object for ModuleObject<'a> {
         state: &KeptState,
         call: SeenCall,
     ) -> Result<(KeptState, Reply), NoMemory> {
-        if let Some(made) = self.called_by_code(state, call)? {
-            return Ok(made);
+        if let Some(code) = &self.code
+            && let KeptState::Scalars(scalars) = state
+        {
+            let variables = self.checked.program().variables.as_slice();
+            let arguments = call.args.lent();
+            let scalars = scalars.as_slice();
+            let made = code.called(variables, scalars, call.proc, arguments.as_slice())?;
+            if let Some((after, answer)) = made {
+                return Ok((KeptState::Scalars(after), answer));
+            }
         }
         self.called_by_tree(alloc, state, call)
     }

@@ -69,21 +69,14 @@ pub(crate) fn kept(alloc: Global, values: Vec<Value>) -> Result<KeptState, NoMem
 }
 
 impl KeptState {
-    /// The values of the variables, copies.
-    fn values(&self, alloc: Global) -> Result<Vec<Value>, AllocError>
-        ensures { IfOk result (λ values. variables_in values.items ≡ kept_in self.now) }
-    {
-        match self {
-            KeptState::Scalars(scalars) => values_of(alloc, scalars.as_slice()),
-            KeptState::Values(values) => copied(alloc, values.as_slice()),
-        }
-    }
-
     /// The state, a copy.
     pub fn state(&self, alloc: Global) -> Result<State, AllocError>
         ensures { IfOk result (λ state. state_of state ≡ kept_in self.now) }
     {
-        Ok(State::new(self.values(alloc)?))
+        match self {
+            KeptState::Scalars(scalars) => Ok(State::new(values_of(alloc, scalars.as_slice())?)),
+            KeptState::Values(values) => Ok(State::new(copied(alloc, values.as_slice())?)),
+        }
     }
 
     /// Its words.

@@ -6,6 +6,7 @@
 #![tactic(auto)]
 
 mod candidates;
+mod coding;
 mod ending;
 pub mod fault;
 pub mod instance;
@@ -14,7 +15,6 @@ pub mod laws;
 pub mod naming_history;
 mod possible;
 pub mod recording;
-mod scalar_calls;
 pub mod searching;
 pub mod searching_parts;
 pub mod showing;

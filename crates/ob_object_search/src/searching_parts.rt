@@ -5,7 +5,8 @@ ghost use Rattle.ob_checked.specs.CheckedModule.{program_in};
 ghost use Rattle.ob_object_run.specs.LegalOrder.{CallEnds};
 ghost use Rattle.ob_object_search.specs.Found.{IsEnoughHere};
 ghost use Rattle.ob_object_search.specs.Searched.{HasEnough, IsEnough};
-ghost use Rattle.ob_object_search.specs.NumberedParts.{AreEnoughHere, AreOrdersHere, ArePartsHere, IsFaultHere, IsFoundHere, IsPartFault, IsPartHere, IsShortHere, named_call};
+ghost use Rattle.ob_object_search.specs.NumberedParts.{AreEnoughHere, ArePartsHere, IsFoundHere, IsPartFault, IsPartHere, IsShortHere, named_call};
+ghost use Rattle.ob_object_search.specs.Objects.{AreOrdersIn, IsFaultIn};
 ghost use Rattle.ob_object_search.specs.Parted.{AreLegalOrders, AreNeededOrders, HasNeededOrders, HasPartOrders, PartOrder};
 ghost use Rattle.ob_object_search.specs.declared.fault.PartsFault.TheVariants as Faults;
 ghost use Rattle.ob_object_search.specs.PartedFaults.{HasPartsFault, IsPartsFault, IsUndecided, TellsMemoryApart, too_long};
@@ -22,11 +23,12 @@ use crate::searching::{budget_of, named};
 use crate::{ModuleObject, Search};
 use ob_check::texts::checked_text;
 use ob_checked::checked::Checked;
+use ob_interface::NoMemory;
 use ob_interface::scalar::Scalar;
 use ob_object_calls::beginning::beginning;
 use ob_scan::scanner::LONGEST_TEXT;
 use ob_text_reading::read_history;
-use std::alloc::{AllocError, Global};
+use std::alloc::Global;
 use wf_history::{CallId, History};
 use wf_order::{Verdict, find_order, needed_order};
 use wf_parts::parts_of;
@@ -114,7 +116,7 @@ fn named_parts(
 }
 
 /// Appends an order.
-fn push_part(found: &mut Vec<Part>, part: Part) -> Result<(), AllocError>
+fn push_part(found: &mut Vec<Part>, part: Part) -> Result<(), NoMemory>
     ensures { OnOk result (orders_in found.new.items ≡ orders_in found.old.items ++ order_in «part» ∷ []) }
 {
     found.push(part)?;
@@ -131,8 +133,8 @@ fn orders_found(
 ) -> Result<Vec<Part>, PartsFault>
     requires apart { AreApart names.now }
     requires here { ArePartsHere names.now (parts_in parts.now) }
-    ensures orders { IfOk result (λ found. AreOrdersHere (program_in object.now.checked.now) object.now.budget (state_of object.now.opening.now) names.now (parts_in parts.now) (orders_in found.items)) }
-    ensures fault { IfErr result (IsFaultHere (program_in object.now.checked.now) object.now.budget (state_of object.now.opening.now) names.now search.now.most (parts_in parts.now)) }
+    ensures orders { IfOk result (λ found. AreOrdersIn object.now names.now (parts_in parts.now) (orders_in found.items)) }
+    ensures fault { IfErr result (IsFaultIn object.now names.now search.now.most (parts_in parts.now)) }
     ensures decided { AreEnoughHere (parts_in parts.now) names.now search.now.most → IfErr result (λ e. e ≢ Faults.TooMany) }
 {
     let mut found = Vec::new(alloc);
@@ -182,12 +184,14 @@ fn calls_named(
     names: &[usize],
     numbers: &[Vec<u64>],
     ids: &[CallId],
-) -> Result<Vec<CallId>, AllocError>
+) -> Result<Vec<CallId>, NoMemory>
     ensures { IfOk result (λ named. named.items ≡ map (named_call names.now (rows_in numbers.now)) ids.now) }
 {
-    ids.iter()
+    let named = ids
+        .iter()
         .map(|id| call_named(names, numbers, *id))
-        .collect(alloc)
+        .collect(alloc)?;
+    Ok(named)
 }
 
 /// A call of a part by the name of its process, and by its number in the whole history.
