@@ -1,5 +1,6 @@
 pub mod Answered
 pub mod Drawings
+pub mod Ends
 pub mod Made
 pub mod Numbered
 pub mod PartLines

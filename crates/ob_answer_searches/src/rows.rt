@@ -2,33 +2,42 @@
 
 ghost use Rattle.std.specs.Prelude.{◌≡◌, ◌++◌, ◌∷◌, [], IfOk, IfSome, OnOk, Some, map, slice_get, string_bytes};
 ghost use Rattle.std.specs.Option.{option_copied};
-ghost use Rattle.ob_answer_searches.specs.RowTexts.{AreProcessTexts, AreRowTexts, row_in, rows_at};
+ghost use Rattle.ob_answer_searches.specs.RowTexts.{AreEndTexts, AreProcessTexts, AreRowTexts, row_in, rows_at};
 ghost use Rattle.ob_answer_searches.specs.WholeLines.{row_lines, rows_lines};
+ghost use Rattle.ob_checked.specs.View.{program_of};
+ghost use Rattle.ob_object_outcomes.specs.WholesView.{numbered};
+ghost use Rattle.ob_store.specs.View.{state_of};
+ghost use Rattle.ob_text_record.specs.Variables.{state_text};
 ghost use Rattle.ob_text_words.specs.ReplyLines.{reply_line};
 ghost use Rattle.wf_history.specs.View.{kept_reply};
 ghost use Rattle.wf_whole_outcomes.specs.View.{replies_of};
 
 use ob_checked::program::Program;
-use ob_object_outcomes::WholeOutcomes;
+use ob_store::state::State;
+use ob_text_record::variables::push_state;
 use ob_text_words::reply_lines::{push_done_line, push_trap_line};
 use std::alloc::{AllocError, Global};
 use wf_history::KeptReply;
+use wf_whole_outcomes::ToldWholes;
 
-/// What the lines of whole outcomes are made of: beside the outcomes, of each process, by the numbers of lists of replies, the lines of
-/// those lists that some outcome has.
+/// What the lines of whole outcomes are made of: beside the outcomes and their states, of each process, by the numbers of lists of replies,
+/// the lines of those lists that some outcome has; and of each state the lines of the variables.
 #[derive(Drop)]
 pub struct Source<'w> {
     pub alloc: Global,
     pub program: &'w Program,
-    pub wholes: &'w WholeOutcomes,
+    pub wholes: &'w ToldWholes<usize>,
+    pub states: &'w [State],
     pub texts: Vec<Vec<Option<String>>>,
+    pub ends: Vec<String>,
     ghost made: { AreRowTexts wholes.now texts.items },
+    ghost ended: { AreEndTexts (program_of program.now).variables states.now ends.items },
 }
 
 /// The lines of all lists of replies that some outcome has.
 pub fn row_texts(
     alloc: Global,
-    wholes: &WholeOutcomes,
+    wholes: &ToldWholes<usize>,
 ) -> Result<Vec<Vec<Option<String>>>, AllocError>
     ensures { IfOk result (λ texts. AreRowTexts wholes.now texts.items) }
 {
@@ -42,7 +51,7 @@ pub fn row_texts(
 /// The same of a process.
 fn process_texts(
     alloc: Global,
-    wholes: &WholeOutcomes,
+    wholes: &ToldWholes<usize>,
     process: usize,
 ) -> Result<Vec<Option<String>>, AllocError>
     ensures { IfOk result (λ texts. AreProcessTexts wholes.now process texts.items) }
@@ -58,7 +67,7 @@ fn process_texts(
 /// Which lists of replies some outcome has for a process, by their numbers.
 fn used_lists(
     alloc: Global,
-    wholes: &WholeOutcomes,
+    wholes: &ToldWholes<usize>,
     process: usize,
 ) -> Result<Vec<bool>, AllocError> {
     let mut is_used = vec![in alloc; false; wholes.front.lists.items.len()]?;
@@ -75,7 +84,7 @@ fn used_lists(
 /// The lines of the list with a number, if they are wanted.
 fn wanted_text(
     alloc: Global,
-    wholes: &WholeOutcomes,
+    wholes: &ToldWholes<usize>,
     process: usize,
     number: usize,
     is_wanted: bool,
@@ -94,7 +103,7 @@ fn wanted_text(
 fn push_list(
     alloc: Global,
     text: &mut String,
-    wholes: &WholeOutcomes,
+    wholes: &ToldWholes<usize>,
     process: usize,
     number: usize,
 ) -> Result<(), AllocError>
@@ -184,6 +193,30 @@ fn text_of(texts: &[Option<String>], number: usize) -> Option<&String>
     }
 }
 
+/// The lines of the variables in each state.
+pub fn end_texts(
+    alloc: Global,
+    program: &Program,
+    states: &[State],
+) -> Result<Vec<String>, AllocError>
+    ensures { IfOk result (λ ends. AreEndTexts (program_of program.now).variables states.now ends.items) }
+{
+    let mut ends = Vec::with_capacity(alloc, states.len())?;
+    for state in states {
+        ends.push(end_text(alloc, program, state)?)?;
+    }
+    Ok(ends)
+}
+
+/// The lines of the variables in a state.
+fn end_text(alloc: Global, program: &Program, state: &State) -> Result<String, AllocError>
+    ensures { IfOk result (λ text. string_bytes text ≡ state_text (program_of program.now).variables (state_of state.now)) }
+{
+    let mut text = String::new(alloc);
+    push_state(&mut text, program, state)?;
+    Ok(text)
+}
+
 impl Source<'_> {
     /// The lines of a list of replies, if they are made.
     fn text(&self, process: usize, number: usize) -> Option<&String>
@@ -223,5 +256,17 @@ impl Source<'_> {
             Some(node) => self.push_told(text, &node.told),
             None => Ok(()),
         }
+    }
+
+    /// Appends the lines of the variables in the state that has a number.
+    pub fn push_end(&self, text: &mut String, number: usize) -> Result<(), AllocError>
+        ensures { OnOk result (string_bytes text.new ≡ string_bytes text.old
+            ++ state_text (program_of self.now.program.now).variables (numbered self.now.states.now number)) }
+    {
+        let Some(lines) = item_at(&self.ends, number) else {
+            return Ok(());
+        };
+        text.push_str(lines)?;
+        Ok(())
     }
 }

@@ -7,6 +7,7 @@ pub mod OutcomesSimulated
 pub mod Owning
 pub mod Questions
 pub mod Steps
+pub mod WholeStates
 pub mod WholesAsked
 pub mod WholesCrossing
 pub mod WholesNamed

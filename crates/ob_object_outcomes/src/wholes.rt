@@ -1,6 +1,6 @@
 //! All whole outcomes of scripts on a module's object.
 
-ghost use Rattle.std.specs.Prelude.{◌≡◌, Err, IfOk, IfErr, IfSome, map};
+ghost use Rattle.std.specs.Prelude.{◌≡◌, ◌-◌, ◌≤◌, All, Err, IfOk, IfErr, IfSome, map};
 ghost use Rattle.ob_checked.specs.CheckedModule.{program_in};
 ghost use Rattle.ob_object_compile.specs.Asked.{TellsAtOnce};
 ghost use Rattle.ob_object_compile.specs.View.{asked_of};
@@ -9,14 +9,14 @@ ghost use Rattle.ob_object_outcomes.specs.Outcomes.{AlwaysHere, HoldsAlways};
 ghost use Rattle.ob_object_outcomes.specs.Questions.{Holds};
 ghost use Rattle.ob_object_outcomes.specs.Scripted.{scripted_in};
 ghost use Rattle.ob_object_outcomes.specs.OutcomesView.{always_in};
-ghost use Rattle.ob_object_outcomes.specs.WholesView.{outcomes_in, told_in};
+ghost use Rattle.ob_object_outcomes.specs.WholesView.{AreFrom, outcomes_in, told_in};
 ghost use Rattle.ob_object_outcomes.specs.Wholes.{AreWholesOf, AreWholesPlaced, IsWholesFault, IsWholesFaultHere, IsWholesTrouble};
 ghost use Rattle.ob_object_search.specs.Kept.{kept_in};
 ghost use Rattle.ob_store.specs.View.{state_of};
-ghost use Rattle.wf_outcomes.specs.Explored.{calls_in};
+ghost use Rattle.wf_outcomes.specs.Explored.{all_kept, calls_in};
 ghost use Rattle.wf_outcomes.specs.Outcomes.{AlwaysGood};
 ghost use Rattle.wf_outcomes.specs.OutcomeOrders.{IsItself};
-ghost use Rattle.wf_whole_outcomes.specs.View.{seen_in};
+ghost use Rattle.wf_whole_outcomes.specs.View.{AreStatesOf};
 ghost use Rattle.wf_whole_outcomes.specs.Wholes.{AreWholes};
 
 use crate::{Bounds, OutcomesFault, Scripted, must_hold, question_asked, scripted_text};
@@ -27,10 +27,14 @@ use ob_object_search::{KeptState, ModuleObject};
 use ob_store::state::State;
 use std::alloc::{AllocError, Global};
 use wf_outcomes::{Explored, explore};
-use wf_whole_outcomes::{ToldWholes, wholes_told};
+use wf_whole_outcomes::{Layer, ToldWholes, wholes_told};
 
-/// Whole outcomes, with states of their own.
-pub type WholeOutcomes = ToldWholes<State>;
+/// Whole outcomes, each with the number of its state, and the states.
+#[derive(Drop)]
+pub struct WholeOutcomes {
+    pub told: ToldWholes<usize>,
+    pub states: Vec<State>,
+}
 
 /// All whole outcomes of the calls of a script on the object that is asked for: all replies and the last state together, over all
 /// merges of what the processes call; each once, with the first order that gives it, and by these orders. Where the object is to
@@ -95,35 +99,75 @@ fn wholes_where_held(
 {
     must_hold(alloc, explored, question)?;
     let told = wholes_told(alloc, explored, bounds.most, bounds.keys)?;
-    Ok(outcomes_of(alloc, told)?)
+    Ok(outcomes_of(alloc, explored, told)?)
 }
 
-/// The whole outcomes, with states of their own.
-fn outcomes_of(alloc: Global, told: ToldWholes<&KeptState>) -> Result<WholeOutcomes, NoMemory>
+/// The whole outcomes, with states of their own: those from the first place on at which an outcome ends. An exploration goes by how many calls
+/// were made, so at nearly all of these one does.
+fn outcomes_of(
+    alloc: Global,
+    explored: &Explored<'_, ModuleObject<'_>>,
+    told: ToldWholes<&KeptState>,
+) -> Result<WholeOutcomes, NoMemory>
+    requires { AreStatesOf kept_in (all_kept kept_in explored.now.seen) told }
     ensures { IfOk result (λ wholes. outcomes_in wholes ≡ told_in told.entry) }
 {
     let ToldWholes {
         processes,
         replies,
         front,
-        states,
+        states: _states,
     } = told;
-    let states = own_states(alloc, &states)?;
-    Ok(ToldWholes {
+    let first = first_place(&front.layer);
+    let numbers = numbers_from(alloc, &front.layer, first)?;
+    let states = states_from(alloc, explored, first)?;
+    let told = ToldWholes {
         processes,
         replies,
         front,
-        states,
-    })
+        states: numbers,
+    };
+    Ok(WholeOutcomes { told, states })
 }
 
-/// The states, copied.
-fn own_states(alloc: Global, states: &[&KeptState]) -> Result<Vec<State>, AllocError>
-    ensures { IfOk result (λ own. map state_of own.items ≡ map (seen_in kept_in) states.now) }
+/// A place before which no node has its own.
+fn first_place(layer: &Layer) -> usize
+    ensures { All (λ node. result ≤ node.place) layer.now.keys }
 {
-    let mut own = Vec::with_capacity(alloc, states.len())?;
-    for state in states {
-        own.push(state.state(alloc)?)?;
+    let mut first = usize::MAX;
+    for at in 0..layer.len() {
+        let node = &layer[at];
+        first = first.min(node.place);
+    }
+    first
+}
+
+/// The places of nodes, counted from a place on.
+fn numbers_from(alloc: Global, layer: &Layer, first: usize) -> Result<Vec<usize>, AllocError>
+    ensures { IfOk result (λ numbers. numbers.items ≡ map (λ node. node.place - first) layer.now.keys) }
+{
+    let mut numbers = Vec::with_capacity(alloc, layer.len())?;
+    for at in 0..layer.len() {
+        let node = &layer[at];
+        let number = node.place.saturating_sub(first);
+        numbers.push(number)?;
+    }
+    Ok(numbers)
+}
+
+/// The states of the configurations from a place on, copied.
+fn states_from(
+    alloc: Global,
+    explored: &Explored<'_, ModuleObject<'_>>,
+    first: usize,
+) -> Result<Vec<State>, AllocError>
+    ensures { IfOk result (λ own. AreFrom (all_kept kept_in explored.now.seen) first (map state_of own.items)) }
+{
+    let mut own = Vec::new(alloc);
+    for place in first..explored.len() {
+        let kept = explored.state(place);
+        let state = kept.state(alloc)?;
+        own.push(state)?;
     }
     Ok(own)
 }
