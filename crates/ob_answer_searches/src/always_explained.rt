@@ -4,14 +4,16 @@ ghost use Rattle.std.specs.Prelude.{◌≡◌, ◌≢◌, ◌++◌, IfOk, codes,
 ghost use Rattle.ob_answer_explained.specs.CommandTexts.{calls_of_text, calls_texts_of, run_texts_of};
 ghost use Rattle.ob_answer_files.specs.Printed.{IsRefused};
 ghost use Rattle.ob_answer_files.specs.Reads.{OfWhole};
-ghost use Rattle.ob_answer_searches.specs.ExplainedAlways.{IsAlwaysExplained, IsAlwaysFaultShown, IsStoryShown, run_fault, run_of_calls};
+ghost use Rattle.ob_answer_searches.specs.ExplainedAlways.{HasWordsBelow, IsAlwaysExplained, IsAlwaysFaultShown, IsStoryShown, run_fault, run_of_calls};
 
 use crate::faults::not_always_line;
 use ob_answer_explained::explaining_runs::run_wrong;
 use ob_answer_explained::texts::{Calls, Run};
 use ob_answer_files::answered::Answer;
 use ob_command::command::RunCommand;
+use ob_explain_arguments::near::near_export;
 use ob_interface::NoMemory;
+use ob_interface::export::Export;
 use ob_object_calls::SeqTextFault;
 use ob_object_outcomes::{Bounds, OutcomesFault, outcomes_text, scripted_text, story};
 use ob_object_perform::{PerformFault, Texts};
@@ -67,10 +69,37 @@ fn always_wrong(
     match fault {
         OutcomesFault::NoMemory => Err(NoMemory),
         OutcomesFault::Texts(fault) => run_wrong(alloc, run_of(calls), run_fault(fault)),
-        OutcomesFault::NoQuestion => Ok(shown_below(alloc, "X5", NO_QUESTION)?),
+        OutcomesFault::NoQuestion => no_question(alloc, calls, name),
         OutcomesFault::TooMany => Ok(shown_below(alloc, "X2", TOO_MANY)?),
         OutcomesFault::NotAlways(path) => story_below(alloc, calls, name, &path),
     }
+}
+
+/// The answer to a name that can't be asked. The texts were read before, so that only memory can be wanting.
+fn no_question(alloc: Global, calls: Calls<'_>, name: &str) -> Result<Answer, NoMemory>
+    ensures { IfOk result (HasWordsBelow (codes "X5")) }
+{
+    let Ok(scripted) = scripted_text(alloc, calls.asked, calls.script) else {
+        return Err(NoMemory);
+    };
+    let words = question_words(alloc, scripted.exports(), name)?;
+    Ok(shown_below(alloc, "X5", &words)?)
+}
+
+/// What is said of a name that can't be asked: where no export has it, the one that it is meant to be, if some name is near.
+fn question_words(alloc: Global, exports: &[Export], name: &str) -> Result<String, AllocError> {
+    let Some(near) = near_export(exports, name.as_bytes()) else {
+        return String::from_str(alloc, NO_QUESTION);
+    };
+    if near.name.as_bytes() == name.as_bytes() {
+        return String::from_str(alloc, NO_QUESTION);
+    }
+    let mut words = String::from_str(alloc, "the module exports no `")?;
+    words.push_str(name)?;
+    words.push_str("`; did you mean `")?;
+    words.push_str(&near.name)?;
+    words.push_str("`?\n")?;
+    Ok(words)
 }
 
 /// The calls as those of a run, whose processes make them: of a fault of its texts the schedule says nothing.

@@ -441,7 +441,9 @@ X5: the name behind `--always` is that of no export that can be asked: none has
 this name, or it has other parameters than one VAR parameter, a BOOLEAN.
 
 Explained as `what stands behind --always is an export with one VAR parameter,
-a BOOLEAN, and no other parameters`.
+a BOOLEAN, and no other parameters`; or, where no export has the name and some
+export's is near to it, as in ``the module exports no `low`; did you mean
+`Low`?``.
 
   0 Inc
     --always Hidden
