@@ -1,5 +1,5 @@
 -- One outcome more.
-use Rattle.std.proofs.Common.{◌≡◌, ◌∙◌, ◌++◌, ◌+◌, ◌<◌, ◌≤◌, ℕ, List, ap, get_or, length, refl, string_bytes, subst}
+use Rattle.std.proofs.Common.{◌∙◌, ◌++◌, ◌+◌, ◌<◌, ◌≤◌, ℕ, List, ap, get_or, length, refl, string_bytes, subst}
 use Rattle.ob_answer_searches.proofs.Numbered.{line_next, lines_all}
 use Rattle.ob_answer_searches.proofs.Outcomes.{lines_from}
 use Rattle.ob_answer_searches.specs.WholeLines.{one_lines}

@@ -23,8 +23,8 @@ returns c =
     length_outcomes (map kept_reply told.replies.items) told.processes told.front 0 (map (numbered wholes.states.items) told.states.items)
     ∙ length-map told.states.items (numbered wholes.states.items) in
     let all = c.in_ok-push_numbered.ensures
-    ∙ ap (λ (t : List ℕ). t ++ numbered_lines (program_of c.program-program.result.now).variables 0 (wholes_in (numbered c.deref.result.now) told)) c.new-text.ensures.bytes
-    ∙ ap (λ (l : List State). numbered_lines (program_of c.program-program.result.now).variables 0 (wholes_in (numbered l) told)) c.deref.ensures.value
+    ∙ ap (λ (t : List ℕ). t ++ numbered_lines (program_of c.program-program.result.now).variables 0 (wholes_in (numbered c.deref-2.result.now) told)) c.new-text.ensures.bytes
+    ∙ ap (λ (l : List State). numbered_lines (program_of c.program-program.result.now).variables 0 (wholes_in (numbered l) told)) c.deref-2.ensures.value
     ∙ ap (λ (p : Program). numbered_lines p.variables 0 (outcomes_in wholes)) c.program-program.ensures.program in
     c.in_ok-push_total.ensures ∙ ap (λ (t : List ℕ). t ++ total_line c.len.result) all
     ∙ ap (λ (n : ℕ). numbered_lines (program_in c.args.checked.now).variables 0 (outcomes_in wholes) ++ total_line n) (count ∙ sym size)
