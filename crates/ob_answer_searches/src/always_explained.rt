@@ -1,9 +1,11 @@
 //! The answer of `explain` on what is to hold always. Of a module's text it has the beginning: a module of more bytes is too long.
 
-ghost use Rattle.std.specs.Prelude.{◌≡◌, ◌≢◌, ◌++◌, IfOk, codes, string_bytes};
+ghost use Rattle.std.specs.Prelude.{◌≡◌, ◌≢◌, ◌++◌, IfOk, IfSome, None, codes, map, string_bytes};
 ghost use Rattle.ob_answer_explained.specs.CommandTexts.{calls_of_text, calls_texts_of, run_texts_of};
 ghost use Rattle.ob_answer_files.specs.Printed.{IsRefused};
 ghost use Rattle.ob_answer_files.specs.Reads.{OfWhole};
+ghost use Rattle.ob_interface.specs.View.{signature_of};
+ghost use Rattle.ob_text_words.specs.ExportNames.{export_named};
 ghost use Rattle.ob_answer_searches.specs.ExplainedAlways.{HasWordsBelow, IsAlwaysExplained, IsAlwaysFaultShown, IsStoryShown, run_fault, run_of_calls};
 
 use crate::faults::not_always_line;
@@ -17,6 +19,7 @@ use ob_interface::export::Export;
 use ob_object_calls::SeqTextFault;
 use ob_object_outcomes::{Bounds, OutcomesFault, outcomes_text, scripted_text, story};
 use ob_object_perform::{PerformFault, Texts};
+use ob_text_words::exports::export_named;
 use std::alloc::{AllocError, Global};
 use std::hash::RandomState;
 use std::random::RandomSource;
@@ -88,18 +91,25 @@ fn no_question(alloc: Global, calls: Calls<'_>, name: &str) -> Result<Answer, No
 
 /// What is said of a name that can't be asked: where no export has it, the one that it is meant to be, if some name is near.
 fn question_words(alloc: Global, exports: &[Export], name: &str) -> Result<String, AllocError> {
-    let Some(near) = near_export(exports, name.as_bytes()) else {
+    let Some(near) = meant_export(exports, name.as_bytes()) else {
         return String::from_str(alloc, NO_QUESTION);
     };
-    if near.name.as_bytes() == name.as_bytes() {
-        return String::from_str(alloc, NO_QUESTION);
-    }
     let mut words = String::from_str(alloc, "the module exports no `")?;
     words.push_str(name)?;
     words.push_str("`; did you mean `")?;
     words.push_str(&near.name)?;
     words.push_str("`?\n")?;
     Ok(words)
+}
+
+/// The export that a name is meant to be which no export has, if some name is near.
+fn meant_export<'a>(exports: &'a [Export], name: &[u8]) -> Option<&'a Export>
+    ensures { IfSome result (λ _. export_named (map signature_of exports.now) name.now ≡ None) }
+{
+    match export_named(exports, name) {
+        Some(_) => None,
+        None => near_export(exports, name),
+    }
 }
 
 /// The calls as those of a run, whose processes make them: of a fault of its texts the schedule says nothing.
