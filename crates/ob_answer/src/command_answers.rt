@@ -15,12 +15,12 @@ use crate::text_answers::{
 use ob_answer_explained::explaining::explain_calls;
 use ob_answer_explained::explaining_runs::explain_run;
 use ob_answer_explained::explaining_traps::explain_traps;
-use ob_answer_explained::showing::values_wrong;
-use ob_answer_explained::texts::{Calls, Run, bytes_or_none, calls_with, run_with};
-use ob_answer_explained::values::values_in;
+use ob_answer_explained::shown_faults::values_wrong;
+use ob_answer_explained::asked_texts::{Calls, Run, bytes_or_none, calls_with, run_with};
+use ob_answer_explained::record_opening::values_in;
 use ob_answer_files::answered::Answer;
 use ob_answer_files::files::Files;
-use ob_answer_files::reading::{CallsBytes, CallsFiles, RunBytes, RunFiles, read_calls, read_run};
+use ob_answer_files::file_reading::{CallsBytes, CallsFiles, RunBytes, RunFiles, read_calls, read_run};
 use ob_command::command::{CallsCommand, RunCommand};
 use ob_interface::NoMemory;
 use std::alloc::Global;

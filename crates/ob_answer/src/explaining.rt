@@ -11,7 +11,7 @@ use ob_answer_explained::explaining_runs::explain_record;
 use ob_answer_explained::explaining_traps::explain_record_traps;
 use ob_answer_files::answered::Answer;
 use ob_answer_files::files::{FileFault, Files};
-use ob_answer_files::reading::{MODULE_BYTES, TwoFiles, read_two, unreadable};
+use ob_answer_files::file_reading::{MODULE_BYTES, TwoFiles, read_two, unreadable};
 use ob_answer_searches::history_explained::{HistoryFiles, explain_history};
 use ob_fault_pages::page::page_text;
 use ob_interface::NoMemory;

@@ -8,8 +8,8 @@ ghost use Rattle.ob_answer_explained.specs.CommandTexts.{calls_of_text, calls_te
 ghost use Rattle.ob_object_compile.specs.Compilation as Compiles;
 ghost use Rattle.ob_object_calls.specs.SequentialRun.{is_want_of_memory};
 
-use crate::showing::{carry_shown, shown_name, shown_or};
-use crate::texts::Calls;
+use crate::asked_texts::Calls;
+use crate::shown_faults::{carry_shown, shown_name, shown_or};
 use ob_answer_files::answered::Answer;
 use ob_carry::carrying::CarryFault;
 use ob_explained::{calls_explanation, module_explanation};

@@ -6,9 +6,9 @@ ghost use Rattle.ob_answer_files.specs.Reads.{OfWhole};
 ghost use Rattle.ob_answer_explained.specs.CommandTexts.{run_of_text, run_texts_of};
 ghost use Rattle.ob_object_perform.specs.Performance as Performs;
 
+use crate::asked_texts::Run;
 use crate::explaining::carry_fault_in;
-use crate::showing::{carry_shown, shown_name, shown_or};
-use crate::texts::Run;
+use crate::shown_faults::{carry_shown, shown_name, shown_or};
 use ob_answer_files::answered::Answer;
 use ob_carry::carrying::CarryFault;
 use ob_explained::{Source, run_explanation};

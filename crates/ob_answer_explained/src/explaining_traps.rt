@@ -5,10 +5,10 @@ ghost use Rattle.ob_answer_explained.specs.Explains.{AreRecordTrapsExplained, Ar
 ghost use Rattle.ob_answer_files.specs.Reads.{OfWhole};
 ghost use Rattle.ob_answer_explained.specs.CommandTexts.{calls_of_text, calls_texts_of};
 
+use crate::asked_texts::Calls;
 use crate::explaining::calls_wrong;
 use crate::explaining_runs::record_wrong;
-use crate::showing::shown_name;
-use crate::texts::Calls;
+use crate::shown_faults::shown_name;
 use ob_answer_files::answered::Answer;
 use ob_explained::Source;
 use ob_explained_traps::{record_traps_text, traps_text};

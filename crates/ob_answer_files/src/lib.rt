@@ -4,9 +4,9 @@
 #![tactic(auto)]
 
 pub mod answered;
+pub mod file_reading;
 pub mod files;
 pub mod handed_files;
 pub mod handing;
-pub mod reading;
+pub mod joined_texts;
 pub mod shown_name;
-pub mod texts;

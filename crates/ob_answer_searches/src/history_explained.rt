@@ -6,7 +6,7 @@ ghost use Rattle.ob_answer_searches.specs.ExplainedOrders.{IsHistoryExplained, I
 ghost use Rattle.ob_command.specs.CommandLine.{default_most};
 
 use crate::order_answers::search_by;
-use ob_answer_explained::showing::{shown_name, shown_or};
+use ob_answer_explained::shown_faults::{shown_name, shown_or};
 use ob_answer_files::answered::Answer;
 use ob_explained::Source;
 use ob_explained_records::history_explanation;

@@ -4,12 +4,12 @@
 #![tactic(auto)]
 
 pub mod always_explained;
-pub mod faults;
 pub mod history_drawing;
 pub mod history_explained;
-pub mod lines;
 pub mod order_answers;
 mod orders;
+pub mod outcome_fault;
 pub mod outcomes_answers;
-mod rows;
+mod reply_lines;
 pub mod whole_answers;
+pub mod whole_lines;

@@ -9,7 +9,7 @@ ghost use Rattle.ob_answer_searches.specs.OutcomesFaultLines.{outcomes_fault_lin
 ghost use Rattle.ob_object_compile.specs.View.{asked_of, beginning_of};
 ghost use Rattle.ob_object_outcomes.specs.OutcomesView.{always_in};
 
-use crate::faults::outcomes_fault_line;
+use crate::outcome_fault::outcomes_fault_line;
 use ob_answer_files::answered::{Answer, refused};
 use ob_interface::NoMemory;
 use ob_object_compile::{Asked, Beginning};

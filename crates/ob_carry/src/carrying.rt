@@ -9,8 +9,8 @@ ghost use Rattle.ob_store.specs.View.{state_of, variables_in};
 ghost use Rattle.ob_carry.specs.Carried.{AreCarriable, IsCarryFault, carried, position_from};
 ghost use Rattle.ob_carry.specs.View.{entries_of};
 
+use crate::fields_by_name::NamedField;
 use crate::fitting::fitted;
-use crate::named::NamedField;
 use ob_checked::checked::Checked;
 use ob_checked::program::{Program, Variable};
 use ob_checked::types::Types;

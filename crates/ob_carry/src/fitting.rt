@@ -9,11 +9,11 @@ ghost use Rattle.ob_meaning.specs.ByPositionValue as Positions;
 ghost use Rattle.ob_carry.specs.Values.{IsScalarOf, IsFitted, AreFittedElements, AreFittedFields};
 ghost use Rattle.ob_carry.specs.View.{named_in, elements_of, fields_of};
 
-use crate::named::{NamedField, NamedValue};
+use crate::fields_by_name::{NamedField, NamedValue};
 use ob_checked::types::{DataType, Types};
 use ob_interface::NoMemory;
 use ob_interface::scalar::{Scalar, ScalarType};
-use ob_scopes::parts::{elements_of, fields_of, simple_type};
+use ob_scopes::type_parts::{elements_of, fields_of, simple_type};
 use ob_store::value::Value;
 use std::alloc::Global;
 

@@ -4,15 +4,15 @@
 //! One may rely on the clauses of `carry`, `named_values` and `read_only_exports`.
 #![tactic(auto)]
 
-mod calls;
 pub mod carry_laws;
 pub mod carrying;
-pub mod exports;
+pub mod fields_by_name;
 pub mod fitting;
-pub mod named;
 pub mod naming;
 pub mod read_only_laws;
+pub mod silent_exports;
 mod spared;
+mod sparing_calls;
 pub mod telling;
 
 pub use telling::named_values;

@@ -9,11 +9,11 @@ ghost use Rattle.ob_typing.specs.Program as Programs;
 ghost use Rattle.ob_carry.specs.View.{elements_of, fields_of, named_in};
 ghost use Rattle.ob_carry.specs.Names.{AreNamesOf, AreFieldNamesOf, IsNameOf};
 
-use crate::named::{NamedField, NamedValue};
+use crate::fields_by_name::{NamedField, NamedValue};
 use ob_checked::types::{DataType, Types};
 use ob_interface::NoMemory;
 use ob_interface::scalar::Scalar;
-use ob_scopes::parts::{elements_of, fields_of};
+use ob_scopes::type_parts::{elements_of, fields_of};
 use ob_store::value::Value;
 use std::alloc::Global;
 

@@ -3,7 +3,7 @@
 ghost use Rattle.std.specs.Prelude.{◌≡◌, ◌<◌, IfOk, length, true, false};
 ghost use Rattle.ob_carry.specs.ReadOnlyExports.{AllKeep, HasAll, IsClosed, StaysIn, in_flags};
 
-use crate::calls::all_calls;
+use crate::sparing_calls::all_calls;
 use ob_checked::program::Procedure;
 use ob_interface::no_memory::NoMemory;
 use std::alloc::Global;

@@ -7,7 +7,7 @@ ghost use Rattle.ob_store.specs.View.{state_of, variables_in};
 ghost use Rattle.ob_carry.specs.View.{entries_of};
 ghost use Rattle.ob_carry.specs.NamedValues.{AreToldOf, CarryBack};
 
-use crate::named::NamedField;
+use crate::fields_by_name::NamedField;
 use crate::naming::named;
 use ob_checked::checked::Checked;
 use ob_checked::program::Variable;

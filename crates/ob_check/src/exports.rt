@@ -11,7 +11,7 @@ use ob_checked::types::{DataType, Types};
 use ob_interface::export::{Export, Formal};
 use ob_interface::scalar::ScalarType;
 use ob_scopes::fault::CheckFault;
-use ob_scopes::parts::simple_type;
+use ob_scopes::type_parts::simple_type;
 use std::alloc::Global;
 
 /// The exports of a program in text order, each with its name and with the modes and types of its parameters.

@@ -18,14 +18,14 @@ ghost use Rattle.ob_rules.specs.Checking.{Fails};
 ghost use Rattle.ob_check.specs.ByScopes.{declared_around};
 ghost use Rattle.ob_check.specs.CheckingProcedures.{around, headed};
 
-use crate::parts::sections_in;
+use crate::declaration_parts::sections_in;
 use ob_checked::program::Parameter;
 use ob_checked::types::Types;
 use ob_grammar::tree::Procedure;
 use ob_rules::parameters::declare_parameters;
 use ob_scopes::fault::{CheckFault, broken};
-use ob_scopes::parts::simple_type;
 use ob_scopes::scopes::Scopes;
+use ob_scopes::type_parts::simple_type;
 use ob_typing::rule::Rule;
 use std::alloc::Global;
 use std::collections::BTreeMap;

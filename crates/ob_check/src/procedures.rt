@@ -12,8 +12,8 @@ ghost use Rattle.ob_rules.specs.CheckingVariables.{known_variables};
 ghost use Rattle.ob_check.specs.ByScopes.{checking_inner, declaring, further_procedures, with_all, with_inner, with_procedures, DeclaresProcedure};
 ghost use Rattle.ob_check.specs.CheckingProcedures.{around, known_procedures};
 
+use crate::declaration_parts::{constants_in, types_in, variables_in};
 use crate::headings::{counted, declare_heading, test_heading};
-use crate::parts::{constants_in, types_in, variables_in};
 use ob_checked::program::{Procedure, Statement, Variable};
 use ob_grammar::tree;
 use ob_grammar::tree::Declarations;

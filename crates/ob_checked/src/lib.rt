@@ -10,4 +10,4 @@ pub mod operators;
 pub mod program;
 pub mod trap;
 pub mod types;
-pub mod written;
+pub mod written_operators;

@@ -4,7 +4,7 @@
 //! what a call makes of a block, and what it answers, is what it comes to in the source. What is kept between calls may change without asking.
 #![tactic(auto)]
 
-pub mod calls;
+pub mod block_calls;
 mod fitting;
 mod noted;
 pub mod room;
@@ -13,7 +13,7 @@ pub mod scalar_calls;
 pub mod scalars;
 pub mod standing_state;
 
-pub use calls::CodeCalls;
+pub use block_calls::CodeCalls;
 pub use room::Room;
 pub use scalar_calls::ScalarCalls;
 pub use standing_state::CodedState;

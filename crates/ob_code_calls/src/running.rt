@@ -11,7 +11,7 @@ ghost use Rattle.ob_interface.specs.declared.scalar.Scalar as Scalars;
 ghost use Rattle.ob_interface.specs.declared.scalar.Scalar.TheVariants.{Int};
 ghost use Rattle.wf_table.specs.Meaning.{kept, steps};
 
-use ob_code_engine::words::reply_in;
+use ob_code_engine::call_words::reply_in;
 use ob_code_engine::{CodeEngine, Entrance};
 use ob_code_machine::Body;
 use ob_interface::call::Reply;

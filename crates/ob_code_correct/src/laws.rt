@@ -5,7 +5,8 @@ ghost use Rattle.ob_typing.specs.Program.{Program};
 ghost use Rattle.ob_code_correct.specs.Carried.{StatesCarryLegal, WordsAreRead, WordsCarryLegal};
 ghost use Rattle.ob_code_correct.specs.Named.{PositionsCarryLegal};
 ghost use Rattle.ob_code_correct.specs.Parts.{EffectIsOfEach, PartsAreLawful, PartsAreRead};
-ghost use Rattle.ob_code_correct.specs.EngineLaw.{BodiesEnd, CalledIsEffect, CodeIsLawful, DecodedIsLawful, EffectIsCalled, EffectIsTotal, FittingIsOfSignatures, LawfulIsDecoded, OpeningsAreLawful, ScriptsEnd};
+ghost use Rattle.ob_code_correct.specs.EngineLaw.{BodiesEnd, CalledIsEffect, CodeIsLawful, DecodedIsLawful, EffectIsCalled, EffectIsTotal};
+ghost use Rattle.ob_code_correct.specs.EngineLaw.{FittingIsOfSignatures, LawfulIsDecoded, OpeningsAreLawful, ScriptsEnd};
 
 /// The engine over the code of each well-formed program is lawful, with every budget: it is never stuck on lawful blocks.
 pub fn code_is_lawful()

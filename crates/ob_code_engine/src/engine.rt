@@ -6,9 +6,9 @@ ghost use Rattle.ob_code_correct.specs.CodeMeaning.{most, result_count, value_co
 ghost use Rattle.ob_code_correct.specs.Parts.{HasProgram};
 ghost use Rattle.ob_meaning.specs.ByNameObject.{most_turns};
 
+use crate::call_words::{lay, reply_in, split, trap_in};
 use crate::entrance::{Entrance, are_same, copied, entrances, most_results, most_values};
-use crate::turns::turn_of;
-use crate::words::{lay, reply_in, split, trap_in};
+use crate::step_answer::turn_of;
 use ob_checked::checked::Checked;
 use ob_code_correct::well_formed_laws::checked_is_well_formed;
 use ob_code_machine::{Body, Code};

@@ -5,12 +5,12 @@
 #![tactic(auto)]
 
 pub mod bound_laws;
+pub mod call_words;
 pub mod coded;
 pub mod engine;
 pub mod engine_laws;
 pub mod entrance;
-mod turns;
-pub mod words;
+mod step_answer;
 
 pub use engine::CodeEngine;
 pub use entrance::Entrance;

@@ -7,8 +7,8 @@ ghost use Rattle.ob_code_machine.specs.Effect as Effects;
 ghost use Rattle.ob_code_machine.specs.Running.{HasEffect, IsLocalWord, IsMade, LeavesBoth, LeavesStack};
 
 use crate::instr::Instr;
-use crate::operators::{Made, made_of_one, made_of_two};
 use crate::stack::Stack;
+use crate::stack_operators::{Made, made_of_one, made_of_two};
 
 /// What came of an instruction.
 #[derive(Clone, Copy)]

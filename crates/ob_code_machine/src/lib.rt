@@ -9,9 +9,9 @@ pub mod entering;
 pub mod fault;
 pub mod instr;
 pub mod laws;
-mod operators;
 mod saved;
 pub mod stack;
+mod stack_operators;
 pub mod turn;
 
 pub use argument::Argument;

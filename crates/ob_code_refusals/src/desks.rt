@@ -6,7 +6,7 @@ ghost use Rattle.ob_object_compile.specs.Sound.{IsSoundObject};
 ghost use Rattle.ob_object_compile.specs.View.{object_in};
 ghost use Rattle.ob_text_words.specs.ScriptCalls.{object_call, script_call_of};
 
-use crate::records::add_record;
+use crate::machine_records::add_record;
 use crate::trouble::Trouble;
 use ob_code_engine::CodeEngine;
 use ob_desk_floor::{Desk, Seat, TakeTurn};

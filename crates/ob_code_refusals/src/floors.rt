@@ -8,11 +8,11 @@ ghost use Rattle.ob_object_compile.specs.View.{object_in};
 ghost use Rattle.ob_text_words.specs.ScriptCalls.{object_call, script_call_of};
 ghost use Rattle.wf_play.specs.Played.{IsSameObject};
 
-use crate::records::add_record;
+use crate::machine_records::add_record;
 use crate::trouble::Trouble;
 use ob_code_engine::CodeEngine;
 use ob_desk_floor::{Floor, Opening, Seat};
-use ob_desk_serve::opening::submissions;
+use ob_desk_serve::object_desk::submissions;
 use ob_layout::encode;
 use ob_object_compile::Object;
 use ob_text_words::script_call::ScriptCall;

@@ -5,17 +5,17 @@
 mod again;
 mod desks;
 mod floors;
-mod records;
-mod rows;
-mod steps;
+mod machine_records;
+mod machine_runs;
+mod sample_runs;
 mod trouble;
 
 use desks::by_desk;
 use floors::by_floor;
-use rows::{ROUNDS_LOST, Row, STOPPED, TRAP_IN_A_ROUND, read};
+use machine_runs::by_steps;
+use sample_runs::{ROUNDS_LOST, Row, STOPPED, TRAP_IN_A_ROUND, read};
 use std::process::ExitCode;
 use std::sync::Wait;
-use steps::by_steps;
 use trouble::Trouble;
 
 fn main(rt: HostRuntime) -> ExitCode {

@@ -8,10 +8,10 @@ use ob_code_machine::{Body, BodyTurn, Code};
 use ob_interface::scalar::Scalar;
 use ob_layout::{Layout, encode};
 use ob_mean::call::{Call, Reply};
-use ob_mean::object::interpret;
+use ob_mean::outside_call::interpret;
 use ob_mean::openings::opening;
 use ob_store::state::State;
-use ob_syntax::reader::read;
+use ob_syntax::tree_reader::read;
 use std::alloc::Global;
 use std::test::Fail;
 

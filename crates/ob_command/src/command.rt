@@ -6,10 +6,10 @@ ghost use Rattle.ob_command.specs.CommandLine.{clap_request, command_of, request
 ghost use Rattle.ob_command.specs.Commands.{IsMistake, IsMistakeOf, IsReading, request_of};
 ghost use Rattle.ob_command.specs.declared.command.Stop.TheVariants.{NoMemory};
 
-use crate::asked::asked;
-use crate::forms::form_mistake;
+use crate::command_forms::form_mistake;
 use crate::given::given_of;
 use crate::mistakes::{has_negative, loose_number, stop_of};
+use crate::requests::asked;
 use clap::ArgMatches;
 use ob_command_line::command_line::command_line;
 use ob_command_line::help::{asks_version, clap_words, extra_of_help, help_mistake};

@@ -5,7 +5,7 @@ ghost use Rattle.clap.specs.Words.{App, app_of};
 ghost use Rattle.clap.specs.declared.builder.command.Command.TheViews.{out-Command as fields_of};
 ghost use Rattle.ob_command_line.specs.ClapCommand.{module_apps, obl0_app, record_apps, run_apps, telling_apps, top_app, with_command, with_commands};
 
-use crate::lines::{
+use crate::command_words::{
     bound_line, draw_line, explain_line, live_line, module_line, order_line, outcomes_line,
     record_line, run_line, seq_line, serve_line, state_line,
 };

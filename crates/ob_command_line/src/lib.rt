@@ -3,5 +3,5 @@
 
 pub mod arguments;
 pub mod command_line;
+pub mod command_words;
 pub mod help;
-pub mod lines;

@@ -7,7 +7,7 @@ ghost use Rattle.ob_desk_floor.specs.Agreeing.{Agrees};
 
 use crate::agreeing::agree;
 use crate::fault::CloseFault;
-use crate::same::{same_submissions, same_words};
+use crate::same_calls::{same_submissions, same_words};
 use crate::seating::{first_stranger, first_uneven};
 use crate::terms::Terms;
 use crate::{Floor, Seat};

@@ -10,7 +10,7 @@ pub mod desk;
 pub mod fault;
 pub mod floor;
 pub mod opening;
-mod same;
+mod same_calls;
 pub mod seat;
 mod seating;
 pub mod submission;

@@ -5,12 +5,12 @@
 #![tactic(auto)]
 
 mod answers;
-mod ending;
+mod closed_record;
+mod closing;
 pub mod fault;
 pub mod gate;
 pub mod gathering;
-pub mod opening;
-mod recording;
+pub mod object_desk;
 pub mod serving;
 pub mod serving_texts;
 pub mod worker;
@@ -18,7 +18,7 @@ pub mod worker;
 pub use fault::ServeFault;
 pub use gate::{Gate, Open};
 pub use gathering::gather;
-pub use opening::opened_desk;
+pub use object_desk::opened_desk;
 pub use serving::serve;
 pub use serving_texts::{ServeTextFault, read_calls, serve_text, serve_text_with};
 pub use worker::{Ended, Worked};

@@ -14,10 +14,10 @@ ghost use Rattle.ob_desk_serve.specs.Served.{AreAnswersTold, AreTurnsLet, HaveEn
 ghost use Rattle.ob_text_words.specs.ScriptCalls.{object_call, script_call_of};
 
 use crate::answers::first_lost;
-use crate::ending::{HandedBack, handed_back};
+use crate::closed_record::record_of_machine;
+use crate::closing::{HandedBack, handed_back};
 use crate::fault::ServeFault;
-use crate::opening::opened_desk;
-use crate::recording::record_of_machine;
+use crate::object_desk::opened_desk;
 use crate::{Gate, gather};
 use ob_code_engine::CodeEngine;
 use ob_desk_floor::Desk;

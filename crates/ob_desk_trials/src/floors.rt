@@ -6,7 +6,7 @@ ghost use Rattle.ob_object_compile.specs.View.{object_in};
 
 use ob_code_engine::CodeEngine;
 use ob_desk_floor::{CloseFault, Floor, Opening, Seat, Terms, settle};
-use ob_desk_serve::opening::submissions;
+use ob_desk_serve::object_desk::submissions;
 use ob_layout::encode;
 use ob_object_compile::laws::compilations_are_sound;
 use ob_object_compile::{Object, compile};

@@ -1,7 +1,7 @@
 //! What words are: of another language, or keywords but for small letters; types.
 
 use ob_messages::matcher::{View, word_hint};
-use ob_messages::table::Number;
+use ob_messages::table_rows::Number;
 /// Types of numbers of other languages, behind which their bits may stand.
 const NUMBER_TYPES: [&str; 5] = ["INT", "UINT", "LONGINT", "SHORTINT", "CARDINAL"];
 

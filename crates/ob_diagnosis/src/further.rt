@@ -1,7 +1,7 @@
 //! What stands further on behind a place: whether a parenthesis is closed there, whether a BEGIN begins a block, what is declared.
 
-use ob_evidence::site::{Site, is_kind, is_token};
-use ob_explain_tokens::kinds::{is_left, is_right};
+use ob_evidence::text_site::{Site, is_kind, is_token};
+use ob_explain_tokens::operand_tokens::{is_left, is_right};
 use ob_scan::{Kind, Token};
 
 /// Whether a token stands there behind the END of the module, its name and the `.`.

@@ -3,12 +3,12 @@
 //! promised; which facts give a hint may be changed without asking.
 #![tactic(auto)]
 
-mod calls;
 mod foreign;
 mod further;
 mod keywords;
 mod missing;
-pub mod remark;
+pub mod module_remark;
+mod procedure_names;
 mod rules;
 mod syntax;
 mod table_rows;

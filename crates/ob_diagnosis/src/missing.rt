@@ -1,13 +1,13 @@
 //! Which token may be missing before a place.
 
-use crate::calls::{is_assigned, is_procedure, next_behind};
 use crate::further::is_closed_behind;
-use ob_evidence::site::{Site, is_kind};
+use crate::procedure_names::{is_assigned, is_procedure, next_behind};
+use ob_evidence::text_site::{Site, is_kind};
 use ob_explain_names::expected::is_expected;
 use ob_explain_tokens::open::{is_unit, open_construct};
 use ob_messages::kinds::sample;
 use ob_messages::place::halves;
-use ob_messages::table::Fact;
+use ob_messages::table_rows::Fact;
 use ob_scan::{Kind, Token};
 use std::alloc::{AllocError, Global};
 

@@ -11,11 +11,11 @@ use crate::unexpected::seen_there;
 use ob_evidence::constructs::{inner_of, open_around, opening_of};
 use ob_evidence::facts::facts_of;
 use ob_evidence::names::end_name;
-use ob_evidence::site::{Site, is_kind, is_token, kind_or_name, line_of};
+use ob_evidence::text_site::{Site, is_kind, is_token, kind_or_name, line_of};
 use ob_explain_names::expected::expected_kinds;
 use ob_messages::remark::Remark;
 use ob_messages::said::Evidence;
-use ob_messages::table::{Fact, Number};
+use ob_messages::table_rows::{Fact, Number};
 use ob_scan::{Kind, Token};
 use std::alloc::{AllocError, Global};
 

@@ -8,13 +8,13 @@ ghost use Rattle.ob_messages.specs.Remarks.{remark_of};
 ghost use Rattle.ob_messages.specs.Said.{evidence_of};
 
 use ob_evidence::facts::facts_of;
-use ob_evidence::site::{Site, kind_of};
+use ob_evidence::text_site::{Site, kind_of};
 use ob_explain_words::declaring::declares;
 use ob_messages::matcher::View;
 use ob_messages::place::{halves, shown_place};
 use ob_messages::remark::Remark;
 use ob_messages::said::{Evidence, hint, sentence};
-use ob_messages::table::{Fact, Number, Type};
+use ob_messages::table_rows::{Fact, Number, Type};
 use ob_scan::Kind;
 use std::alloc::{AllocError, Global};
 

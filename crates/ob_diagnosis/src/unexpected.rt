@@ -5,19 +5,21 @@ ghost use Rattle.ob_evidence.specs.Constructs.{AreShown};
 ghost use Rattle.ob_evidence.specs.Keywords.{AreAsked};
 ghost use Rattle.ob_evidence.specs.Sites.{scene_of};
 
-use crate::calls::{begins_with_bracket, called, ends_repeat, is_assigned, is_procedure, lists};
 use crate::foreign::{is_foreign, is_type_name};
 use crate::further::{begins_block, declares_type, has_ended, is_closed_behind};
 use crate::keywords::{is_keyword, keyword_before, keyword_first, keyword_there};
 use crate::missing::missing_there;
+use crate::procedure_names::{
+    begins_with_bracket, called, ends_repeat, is_assigned, is_procedure, lists,
+};
 use ob_evidence::constructs::{Shown, shown_there};
 use ob_evidence::facts::note;
-use ob_evidence::site::{Site, is_kind};
+use ob_evidence::text_site::{Site, is_kind};
 use ob_explain_tokens::open::open_construct;
 use ob_explain_tokens::parens::is_in_parens;
 use ob_explain_words::declaring::declares;
 use ob_messages::place::halves;
-use ob_messages::table::Fact;
+use ob_messages::table_rows::Fact;
 use ob_scan::{Kind, Token};
 use std::alloc::{AllocError, Global};
 

@@ -3,10 +3,10 @@
 //! above all `specs/Evidence.antt`, are what the sentences of faults rest on; how a value is found may be changed without asking.
 #![tactic(auto)]
 
+pub mod constant_numbers;
 pub mod constructs;
 pub mod facts;
 pub mod names;
-pub mod numbers;
-pub mod site;
-pub mod types;
-pub mod words;
+pub mod needed_types;
+pub mod text_site;
+pub mod word_totals;

@@ -6,17 +6,17 @@ ghost use Rattle.ob_evidence.specs.Names.{declared, declared_line, end_name, is_
 ghost use Rattle.ob_evidence.specs.Names.{leads_to_statement, needed, needed_first};
 ghost use Rattle.ob_evidence.specs.Sites.{scene_of};
 
-use crate::site::{Site, is_kind, kind_of};
+use crate::text_site::{Site, is_kind, kind_of};
 use ob_explain_names::declarations::declared_as;
 use ob_explain_names::known::{Known, Sort};
 use ob_explain_names::lookup::sort_of;
 use ob_explain_parts::field_names::fields_at;
-use ob_explain_tokens::ends::name_of_end;
+use ob_explain_tokens::end_names::name_of_end;
 use ob_explain_words::distance::{Candidate, FAR};
 use ob_explain_words::nearest::{nearest, nearest_token};
 use ob_explain_words::need::Need;
 use ob_messages::place::place_in;
-use ob_messages::table::Fact;
+use ob_messages::table_rows::Fact;
 use ob_scan::{Kind, Token};
 use std::alloc::{AllocError, Global};
 

@@ -5,7 +5,7 @@ ghost use Rattle.ob_explain_arguments.specs.DeclaredNames.{IsDeclared, declares,
 
 use ob_explain_names::declarations::token_bytes;
 use ob_explain_tokens::around::tokens_of;
-use ob_messages::words::is_same;
+use ob_messages::first_word::is_same;
 use ob_scan::{Kind, Token};
 use std::alloc::{AllocError, Global};
 

@@ -5,7 +5,7 @@ ghost use Rattle.std.specs.Char.{is_ascii_digit, is_ascii_lowercase};
 ghost use Rattle.std.specs.List.{list_any, prefix_len};
 ghost use Rattle.ob_explain_arguments.specs.Items.{deed_sentence, item_sentence, label_sentence, numbered_sentence};
 
-use crate::lines::{ORDER_MARK, begins_comment, begins_order_mark};
+use crate::other_lines::{ORDER_MARK, begins_comment, begins_order_mark};
 
 /// The most digits of a process.
 const PROCESS_DIGITS: usize = 9;

@@ -1,12 +1,12 @@
 //! The forms of lines and of the values in them, for what is said where a script or a record breaks one.
 #![tactic(auto)]
 
-pub mod call;
+pub mod call_line;
 pub mod declared;
+pub mod first_line;
 pub mod items;
-pub mod lines;
 pub mod misfit;
 pub mod near;
-pub mod records;
+pub mod other_lines;
 pub mod sentences;
-pub mod values;
+pub mod value_marks;

@@ -5,7 +5,7 @@ ghost use Rattle.ob_explain_arguments.specs.Misfits.{FitsAt, MisfitsAt, TellsMis
 ghost use Rattle.ob_interface.specs.declared.scalar.ScalarType.{ScalarType};
 
 use ob_interface::scalar::ScalarType;
-use ob_text_words::parameters::read_value;
+use ob_text_words::parameter_words::read_value;
 
 /// What doesn't fit of words for values.
 #[derive(Clone, Copy)]

@@ -9,7 +9,7 @@ use crate::declarations::declared_as;
 use crate::known::{Known, Sort};
 use crate::lookup::name_at;
 use ob_explain_tokens::around::tokens_behind;
-use ob_explain_tokens::kinds::{
+use ob_explain_tokens::operand_tokens::{
     ends_operand, is_minus, is_name, is_number, is_semicolon, is_sign, multiplies,
 };
 use ob_scan::Token;

@@ -3,8 +3,8 @@
 ghost use Rattle.std.specs.Prelude.{◌≡◌, IfOk};
 ghost use Rattle.ob_explain_parts.specs.FieldNames.{between, fields_at, fields_by, fields_from, fields_of_name, fields_of_part};
 
-use crate::parts::{operand_start, selected};
-use crate::types::{Standing, declared_type, fields_of, meant};
+use crate::declared_types::{Standing, declared_type, fields_of, meant};
+use crate::variable_parts::{operand_start, selected};
 use ob_explain_names::declarations::declared_as;
 use ob_explain_names::known::{Known, Sort};
 use ob_explain_names::lookup::name_at;

@@ -3,7 +3,7 @@
 ghost use Rattle.std.specs.Prelude.{◌≡◌, ◌≤◌, ◌<◌, ◌+◌, ◌^◌, [], IfOk, OnOk};
 ghost use Rattle.ob_explain_parts.specs.Fields.{ends_fields, fields_behind, is_field, listing_behind, open_records, with_field, within_behind};
 
-use ob_explain_tokens::kinds::{is_colon, is_end, is_name, is_record, is_semicolon};
+use ob_explain_tokens::operand_tokens::{is_colon, is_end, is_name, is_record, is_semicolon};
 use ob_scan::{Kind, Token};
 use std::alloc::{AllocError, Global};
 

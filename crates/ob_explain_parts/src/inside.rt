@@ -3,7 +3,7 @@
 ghost use Rattle.std.specs.Prelude.{◌≡◌, ◌<◌, ◌≤◌, ◌+◌, ◌^◌};
 ghost use Rattle.ob_explain_parts.specs.Inside.{closes_there, gives_truth, has_truth, open_behind, takes_truths};
 
-use ob_explain_tokens::kinds::{is_left, is_relation, is_right};
+use ob_explain_tokens::operand_tokens::{is_left, is_relation, is_right};
 use ob_scan::{Kind, Token};
 
 /// Whether an operator that gives a BOOLEAN stands in parentheses, of the tokens behind the `(`.

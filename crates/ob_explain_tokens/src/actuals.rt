@@ -3,7 +3,7 @@
 ghost use Rattle.std.specs.Prelude.{◌≡◌, ◌≤◌, length};
 ghost use Rattle.ob_explain_tokens.specs.Actuals.{actual_count, comma, commas, ends_call, opens_actuals};
 
-use crate::kinds::{is_left, is_right};
+use crate::operand_tokens::{is_left, is_right};
 use ob_scan::{Kind, Token};
 
 /// How many actuals stand behind the name of a call, of the tokens behind it.

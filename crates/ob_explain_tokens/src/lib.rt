@@ -6,7 +6,7 @@
 
 pub mod actuals;
 pub mod around;
-pub mod ends;
-pub mod kinds;
+pub mod end_names;
 pub mod open;
+pub mod operand_tokens;
 pub mod parens;

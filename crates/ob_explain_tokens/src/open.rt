@@ -4,7 +4,7 @@ ghost use Rattle.std.specs.Prelude.{◌≡◌, None};
 ghost use Rattle.ob_explain_tokens.specs.Open.{IsInRecord, IsOpenConstruct, begins_construct, else_if, ends_construct, is_before, is_else_if};
 ghost use Rattle.ob_explain_tokens.specs.Open.{is_if_there, is_unit};
 
-use crate::kinds::is_record;
+use crate::operand_tokens::is_record;
 use ob_scan::{Kind, Token};
 
 /// The token that opens the construct that is open at a place: these tokens stand before it and go back from there.

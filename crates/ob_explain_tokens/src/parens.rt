@@ -3,7 +3,7 @@
 ghost use Rattle.std.specs.Prelude.{◌≡◌, find};
 ghost use Rattle.ob_explain_tokens.specs.Parens.{is_in_parens, is_paren};
 
-use crate::kinds::{is_left, is_right};
+use crate::operand_tokens::{is_left, is_right};
 use ob_scan::Token;
 
 /// Whether the first parenthesis of these tokens, which stand before a place and go back from it, opens.

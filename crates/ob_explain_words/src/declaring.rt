@@ -4,8 +4,8 @@ ghost use Rattle.std.specs.Prelude.{◌≡◌, ◌↔◌, ◌&&◌, IsTrue};
 ghost use Rattle.ob_explain_words.specs.Declaring.{Declares, IsListed, IsWord, TellsDeclared, TellsEquations, is_before_equal, is_procedure, leads_one};
 
 use ob_explain_names::declarations::token_bytes;
-use ob_explain_tokens::kinds::{is_colon, is_comma, is_name};
-use ob_messages::words::is_same;
+use ob_explain_tokens::operand_tokens::{is_colon, is_comma, is_name};
+use ob_messages::first_word::is_same;
 use ob_scan::{Kind, Token};
 
 /// Whether a word is a name that the tokens of a text declare.

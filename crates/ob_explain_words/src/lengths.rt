@@ -7,7 +7,7 @@ ghost use Rattle.ob_explain_words.specs.Scopes.{scope_of};
 use crate::scope::Scope;
 use ob_explain_names::declarations::token_bytes;
 use ob_explain_names::numerals::{Numeral, numeral_next};
-use ob_explain_tokens::kinds::is_of;
+use ob_explain_tokens::operand_tokens::is_of;
 use ob_scan::Token;
 use ob_text_words::numbers::read_numeral;
 use std::alloc::{AllocError, Global};

@@ -4,15 +4,15 @@
 //! One may rely on a nearest name being one that is declared.
 #![tactic(auto)]
 
-mod counts;
 pub mod declaring;
 pub mod distance;
 pub mod edits;
-mod kinds;
 mod lengths;
-mod listed;
-mod named;
+mod list_tokens;
+mod named_types;
 pub mod nearest;
 pub mod need;
 mod scope;
-pub mod words;
+mod type_lists;
+pub mod type_words;
+mod word_counts;

@@ -1,6 +1,6 @@
 //! What is known where a type stands.
 
-use crate::named::NamedType;
+use crate::named_types::NamedType;
 use ob_explain_names::known::Known;
 use ob_scan::Token;
 

@@ -7,11 +7,11 @@ ghost use Rattle.ob_explained.specs.ExplainedValues.{ExplainsCarry, ExplainsValu
 ghost use Rattle.ob_explained.specs.ValueMarks.{IsAtLine, IsAtValue, IsCarryRemark, IsValuesRemark};
 
 use crate::Source;
+use crate::named_texts::shown;
 use crate::script_place::{first_place, script_line, word_place};
-use crate::source::shown;
 use crate::value_line::value_line;
 use ob_carry::carrying::CarryFault;
-use ob_explain_arguments::records::title_sentence;
+use ob_explain_arguments::first_line::title_sentence;
 use ob_messages::remark::Remark;
 use ob_text_values_reading::ValuesFault;
 use ob_text_values_reading::comments::said_number;

@@ -9,7 +9,7 @@ ghost use Rattle.ob_explained.specs.ItemPlaces.{IsItemPlace, item_at};
 ghost use Rattle.ob_text_words.specs.Schedule.{line_items};
 
 use crate::script_place::{script_line, word_place};
-use ob_text_words::schedule::{is_comment, item_words};
+use ob_text_words::schedule_texts::{is_comment, item_words};
 use ob_text_words::words::put_words;
 use std::alloc::{AllocError, Global};
 

@@ -10,7 +10,7 @@ ghost use Rattle.ob_explained.specs.ScriptRemarks.{line_sentence, script_remark}
 use crate::script_place::{
     first_place, first_word, form_place, is_process, script_line, second_place,
 };
-use ob_explain_arguments::lines::{name_sentence, process_sentence};
+use ob_explain_arguments::other_lines::{name_sentence, process_sentence};
 use ob_messages::remark::Remark;
 use ob_text_scripts::ScriptFault;
 use std::alloc::{AllocError, Global};

@@ -9,7 +9,7 @@ use crate::call_remark::calls_remark;
 use crate::number_fault::{
     budget_explanation, long_code_explanation, long_text_explanation, processes_explanation,
 };
-use crate::opening::open_explanation;
+use crate::opening_traps::open_explanation;
 use ob_check::TextFault;
 use ob_messages::explanation::explanation;
 use ob_messages::remark::Remark;

@@ -13,13 +13,13 @@ ghost use Rattle.ob_interface.specs.View.{signature_of};
 
 use crate::call_place::{begin_place, call_within, ended_text, line_before, not_begun_text};
 use crate::record_line::{Wanted, split_lines};
-use ob_explain_arguments::call::{Told, told_call};
+use ob_explain_arguments::call_line::{Told, told_call};
 use ob_explain_arguments::misfit::{Misfit, first_misfit};
 use ob_explain_arguments::sentences::{done_sentence, value_sentence};
 use ob_interface::export::{Export, Formal};
 use ob_interface::scalar::ScalarType;
 use ob_text_values_reading::comments::line_number;
-use ob_text_words::exports::export_named;
+use ob_text_words::export_names::export_named;
 use ob_text_words::numbers::{push_number, read_numeral};
 use ob_text_words::words::words_of;
 use std::alloc::{AllocError, Global};

@@ -4,8 +4,8 @@ ghost use Rattle.std.specs.Prelude.{◌≡◌, ◌↔◌, ◌∷◌, codes, IfOk
 ghost use Rattle.ob_explained_records.specs.ExplainedHistories.{HasNoEnd, IsEndLine, IsFirstEnd, NamesFirst, SaysEnd};
 ghost use Rattle.ob_text_words.specs.Words.{lines, words};
 
-use ob_text_values_reading::taking::take_id;
-use ob_text_values_reading::words::next_word;
+use ob_text_values_reading::line_words::next_word;
+use ob_text_values_reading::taken_names::take_id;
 use std::alloc::{AllocError, Global};
 use wf_history::CallId;
 

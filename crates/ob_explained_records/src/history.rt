@@ -7,7 +7,7 @@ ghost use Rattle.ob_explained.specs.Sources.{source_of};
 use crate::end_remark::end_remark;
 use crate::history_remark::form_remark;
 use ob_explained::module_explanation;
-use ob_explained::source::{Source, shown};
+use ob_explained::named_texts::{Source, shown};
 use ob_object_compile::CompileFault;
 use ob_object_search::{Search, SearchFault};
 use ob_text_words::numbers::push_number;

@@ -10,9 +10,9 @@ pub mod history;
 mod history_remark;
 mod order_place;
 pub mod order_remark;
-pub mod record;
+pub mod record_faults;
 pub mod record_remark;
 mod reply_sentence;
 
 pub use history::history_explanation;
-pub use record::record_explanation;
+pub use record_faults::record_explanation;

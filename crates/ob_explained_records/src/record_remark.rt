@@ -13,15 +13,15 @@ ghost use Rattle.ob_typing.specs.ModuleText.{IsModule};
 ghost use Rattle.ob_typing.specs.Program.{Program};
 
 use ob_check::TextFault;
-use ob_check::texts::checked_text;
+use ob_check::checked_text::checked_text;
 use ob_checked::program::Variable;
-use ob_explain_arguments::records::title_sentence;
+use ob_explain_arguments::first_line::title_sentence;
 use ob_explained::script_place::{behind_place, first_place, script_line, word_place};
 use ob_explained_lines::cause::{Cause, Object, Spot, has_budget, has_openings, line_cause};
 use ob_explained_lines::record_line::{Wanted, first_line};
 use ob_interface::export::Export;
+use ob_messages::first_word::begins_with;
 use ob_messages::remark::Remark;
-use ob_messages::words::begins_with;
 use ob_text_values_reading::comments::said_number;
 use std::alloc::{AllocError, Global};
 

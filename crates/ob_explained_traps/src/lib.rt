@@ -6,11 +6,11 @@
 
 mod call_lines;
 pub mod laws;
-mod named;
 mod order_calls;
 pub mod record_traps;
 pub mod script_traps;
 mod spots;
+mod told_calls;
 mod trap_lines;
 
 pub use record_traps::record_traps_text;

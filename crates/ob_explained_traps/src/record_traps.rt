@@ -12,10 +12,10 @@ ghost use Rattle.ob_object_run.specs.LegalOrder.{CallEnds};
 ghost use Rattle.ob_store.specs.View.{state_of};
 ghost use Rattle.ob_traps.specs.Sequence.{sites_from};
 
-use crate::named::Calls;
 use crate::order_calls::order_calls;
+use crate::told_calls::Calls;
 use crate::trap_lines::{Setting, traps_told};
-use ob_check::texts::checked_text;
+use ob_check::checked_text::checked_text;
 use ob_checked::checked::Checked;
 use ob_explained::Source;
 use ob_interface::NoMemory;

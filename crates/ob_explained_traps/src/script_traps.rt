@@ -9,12 +9,12 @@ ghost use Rattle.ob_object_compile.specs.View.{asked_of};
 ghost use Rattle.ob_object_calls.specs.SequentialRun.{IsSeqRefusal};
 
 use crate::call_lines::call_lines;
-use crate::named::Calls;
+use crate::told_calls::Calls;
 use crate::trap_lines::{Setting, traps_told};
 use ob_explained::Source;
 use ob_interface::NoMemory;
 use ob_object_calls::SeqTextFault;
-use ob_object_calls::calls::{callers, object_calls};
+use ob_object_calls::script_calls::{callers, object_calls};
 use ob_object_compile::{Asked, CompileFault, Object, compile_asked};
 use ob_text_scripts::read_scripts;
 use ob_text_words::script_call::ScriptCall;

@@ -6,8 +6,8 @@ ghost use Rattle.ob_explained_traps.specs.TrapLines.{count_lines, count_text, he
 ghost use Rattle.ob_explained_traps.specs.TrapLines.{or_none, traps_lines};
 ghost use Rattle.ob_traps.specs.Reaching.{site_of};
 
-use crate::named::{Calls, push_name};
 use crate::spots::{Spot, count_at, is_first, spots_of};
+use crate::told_calls::{Calls, push_name};
 use ob_explained::Source;
 use ob_explained::cause::{Runner, cause_sentence};
 use ob_grammar::tree::ModuleTree;

@@ -8,7 +8,7 @@ ghost use Rattle.ob_text_words.specs.Appending.{GoesOn};
 
 use crate::module_faults::{push_open_fault, push_text_fault};
 use ob_carry::carrying::CarryFault;
-use ob_carry::named::NamedField;
+use ob_carry::fields_by_name::NamedField;
 use ob_object_compile::{Beginning, CompileFault};
 use std::alloc::{AllocError, Global};
 

@@ -3,7 +3,7 @@
 ghost use Rattle.std.specs.Prelude.{◌≡◌, ◌++◌, IfOk, OnOk, string_bytes};
 ghost use Rattle.ob_fault_lines.specs.Counts.{IsCountsLine, part};
 
-use crate::counts::{begun_calls, ended_calls};
+use crate::call_counts::{begun_calls, ended_calls};
 use ob_text_words::numbers::push_number;
 use std::alloc::{AllocError, Global};
 

@@ -3,9 +3,9 @@
 //! One may rely on the clauses of the public functions: which lines they are is defined in `specs/`.
 #![tactic(auto)]
 
+pub mod call_counts;
 pub mod compile_faults;
 pub mod count_lines;
-pub mod counts;
 pub mod draw_faults;
 pub mod history_faults;
 pub mod module_faults;

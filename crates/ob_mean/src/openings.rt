@@ -9,7 +9,7 @@ ghost use Rattle.ob_mean.specs.Outside.{Opens};
 ghost use Rattle.ob_store.specs.View.{state_of};
 
 use crate::begun::state_begun;
-use crate::object::MOST_ACTIVATIONS;
+use crate::outside_call::MOST_ACTIVATIONS;
 use crate::places::Stop;
 use crate::statements::{Context, run};
 use ob_checked::checked::Checked;

@@ -7,8 +7,8 @@ ghost use Rattle.ob_mean.specs.Faults.{IsSeqFault};
 ghost use Rattle.ob_mean.specs.View.{call_of, reply_of};
 
 use crate::call::{Call, Reply};
-use crate::object::step;
 use crate::openings::{OpenFault, opening};
+use crate::outside_call::step;
 use ob_checked::checked::Checked;
 use ob_interface::NoMemory;
 use std::alloc::{AllocFailed, Global};

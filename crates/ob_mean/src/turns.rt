@@ -9,7 +9,7 @@ ghost use Rattle.ob_store.specs.View.{state_of};
 ghost use Rattle.ob_mean.specs.Turns.{IsLeastBudget, all_turns_at, is_out_of_turns, turns_at};
 
 use crate::call::{Call, Reply};
-use crate::object::{interpret, step};
+use crate::outside_call::{interpret, step};
 use ob_checked::checked::Checked;
 use ob_checked::trap::{Trap, trap_number};
 use ob_interface::NoMemory;

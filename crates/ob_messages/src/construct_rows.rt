@@ -1,7 +1,7 @@
 //! Hints on constructs that are open or closed at a place, on two tokens that stand for one, and on what may be missing.
 
-use crate::table::WhenOf::{Could, Here, Is, Last, Next, Not};
-use crate::table::{Fact, Piece, PieceOf, Row};
+use crate::table_rows::WhenOf::{Could, Here, Is, Last, Next, Not};
+use crate::table_rows::{Fact, Piece, PieceOf, Row};
 use crate::word_rows::NO_SHIFT;
 use ob_scan::Kind;
 

@@ -1,7 +1,7 @@
 //! Hints on functions that other languages have, at the parenthesis behind their names.
 
-use crate::table::WhenOf::{Could, Here, Is, Not, Word};
-use crate::table::{Fact, PieceOf, Row};
+use crate::table_rows::WhenOf::{Could, Here, Is, Not, Word};
+use crate::table_rows::{Fact, PieceOf, Row};
 use crate::word_rows::{NO_CHARACTER, NO_REAL, NO_SHIFT};
 use ob_scan::Kind;
 

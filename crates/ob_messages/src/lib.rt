@@ -5,6 +5,7 @@
 
 pub mod construct_rows;
 pub mod explanation;
+pub mod first_word;
 pub mod function_rows;
 pub mod groups;
 pub mod kinds;
@@ -15,7 +16,6 @@ pub mod remark;
 pub mod said;
 pub mod sentence_rows;
 pub mod shown;
-pub mod table;
+pub mod table_rows;
 pub mod token_rows;
 pub mod word_rows;
-pub mod words;

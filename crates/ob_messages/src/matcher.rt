@@ -8,15 +8,15 @@ ghost use Rattle.ob_messages.specs.Rows.{row_of, rule_rows, sentence_of, sentenc
 ghost use Rattle.ob_messages.specs.Rows.{token_hint, type_rows, type_token_rows, unless, when_of, word_rows};
 
 use crate::construct_rows::{CONSTRUCT_ROWS, MISSING_ROWS};
+use crate::first_word::is_same_in_any_case;
 use crate::function_rows::FUNCTION_ROWS;
 use crate::sentence_rows::{END_ROWS, LIMIT_ROWS, SENTENCE_ROWS, TYPE_ROWS};
-use crate::table::{Fact, Number, Piece, Row, When, WhenOf};
+use crate::table_rows::{Fact, Number, Piece, Row, When, WhenOf};
 use crate::token_rows::{
     DECLARATION_ROWS, RULE_ROWS, SEPARATOR_ROWS, SIGN_ROWS, STATEMENT_ROWS, SYMBOL_ROWS,
     TYPE_TOKEN_ROWS,
 };
 use crate::word_rows::{BYTE_ROWS, NAME_ROWS, PLACED_WORD_ROWS, WORD_ROWS};
-use crate::words::is_same_in_any_case;
 use ob_scan::Kind;
 
 /// What may be seen at the place of a fault, and around it.

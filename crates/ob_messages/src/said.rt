@@ -9,7 +9,7 @@ use crate::kinds::{kind_name, sample};
 use crate::matcher::{View, end_of, hint_of, sentence_of};
 use crate::phrases::push_expected;
 use crate::shown::push_line;
-use crate::table::{Piece, PieceOf, Type};
+use crate::table_rows::{Piece, PieceOf, Type};
 use ob_scan::Kind;
 use std::alloc::{AllocError, Global};
 

@@ -1,7 +1,7 @@
 //! The sentences, of each fault the first that holds, and their ends.
 
-use crate::table::WhenOf::{Here, Is, Last, Never, Next, On, Word};
-use crate::table::{Fact, Number, Piece, PieceOf, Row};
+use crate::table_rows::WhenOf::{Here, Is, Last, Never, Next, On, Word};
+use crate::table_rows::{Fact, Number, Piece, PieceOf, Row};
 use ob_scan::Kind;
 
 /// A table: in each row conditions, and what is said.

@@ -5,7 +5,7 @@ ghost use Rattle.std.specs.List.{take_while};
 ghost use Rattle.ob_messages.specs.Shown.{blank_below, cut_blank, cut_mark, first_part, last_part, left_part, named, right_part, shown_byte};
 ghost use Rattle.ob_messages.specs.Shown.{goes_on_word, whole_word};
 
-use crate::words::word_at;
+use crate::first_word::word_at;
 use std::alloc::AllocError;
 
 /// The most bytes of a line that is shown whole.

@@ -1,7 +1,7 @@
 //! Hints on tokens that can't stand where they do, by the tokens around the place and by what could stand there.
 
-use crate::table::WhenOf::{Could, Here, Is, Last, Never, Next, Not, On, Second, Sign, Word};
-use crate::table::{Fact, Number, Piece, PieceOf, Row};
+use crate::table_rows::WhenOf::{Could, Here, Is, Last, Never, Next, Not, On, Second, Sign, Word};
+use crate::table_rows::{Fact, Number, Piece, PieceOf, Row};
 use crate::word_rows::{IN_CAPITALS, NO_FOR, NO_POINTER, NO_REAL, NO_SHIFT};
 use ob_scan::Kind;
 

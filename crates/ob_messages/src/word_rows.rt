@@ -1,7 +1,7 @@
 //! Hints on bytes that begin no token, and on words of other languages.
 
-use crate::table::WhenOf::{Could, Here, Is, Last, Never, Next, Not, On, Second, Sign, Word};
-use crate::table::{Fact, Number, PieceOf, Row};
+use crate::table_rows::WhenOf::{Could, Here, Is, Last, Never, Next, Not, On, Second, Sign, Word};
+use crate::table_rows::{Fact, Number, PieceOf, Row};
 use ob_scan::Kind;
 
 /// A table: in each row conditions, and what is said.

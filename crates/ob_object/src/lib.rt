@@ -2,7 +2,7 @@
 #![tactic(auto)]
 
 pub use ob_carry::carrying::{CarryFault, carry};
-pub use ob_carry::named::{NamedField, NamedValue};
+pub use ob_carry::fields_by_name::{NamedField, NamedValue};
 pub use ob_code_engine::CodeEngine;
 pub use ob_interface::call::{Call, Reply};
 pub use ob_object_calls::{

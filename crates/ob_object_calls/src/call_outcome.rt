@@ -7,9 +7,9 @@ ghost use Rattle.ob_object_calls.specs.MadeCalls.{IsFound};
 ghost use Rattle.ob_object_calls.specs.View.{made_of};
 ghost use Rattle.ob_store.specs.View.{state_of};
 
-use crate::ends::told_reply;
+use crate::call_names::place_in;
 use crate::history_calls::meant_reply;
-use crate::names::place_in;
+use crate::history_ends::told_reply;
 use ob_checked::checked::Checked;
 use ob_interface::NoMemory;
 use ob_mean::call::Reply;

@@ -17,7 +17,7 @@ use ob_interface::NoMemory;
 use ob_object_compile::Object;
 use ob_store::state::State;
 use ob_store::value::Value;
-use ob_text_record::values::push_value;
+use ob_text_record::printed_values::push_value;
 use ob_text_words::script_call::ScriptCall;
 use std::alloc::{AllocError, Global};
 

@@ -10,10 +10,10 @@ ghost use Rattle.ob_object_calls.specs.DetailLines.{told_lines};
 ghost use Rattle.ob_object_calls.specs.DetailedRun.{IsToldRun, TellsAt, TellsTurns, changes_told, replies_at};
 ghost use Rattle.ob_text_words.specs.ScriptCalls.{object_call, script_call_of};
 
-use crate::calls::{callers, object_calls};
 use crate::changes::changes_in_turn;
+use crate::code_replies::replies_on;
 use crate::detail_lines::{Beside, print_told, push_budget_line};
-use crate::replies::replies_on;
+use crate::script_calls::{callers, object_calls};
 use crate::sequential::SeqTextFault;
 use ob_interface::NoMemory;
 use ob_mean::turns::turns_in_turn;

@@ -17,7 +17,7 @@ use crate::begins::begins_of;
 use ob_checked::checked::Checked;
 use ob_interface::NoMemory;
 use ob_mean::call as interpreter;
-use ob_mean::object::step;
+use ob_mean::outside_call::step;
 use ob_store::state::State;
 use std::alloc::{AllocError, Global};
 use std::collections::HashMap;

@@ -6,21 +6,21 @@
 
 pub mod beginning;
 pub mod begins;
+mod call_names;
 pub mod call_outcome;
 pub mod call_outcome_text;
-pub mod calls;
 mod changes;
 pub mod check;
+mod code_replies;
 mod coded_calls;
 mod coded_verifying;
 mod detail_lines;
 pub mod details;
-mod ends;
 mod history_calls;
+mod history_ends;
 pub mod laws;
-mod names;
 pub mod overtaking;
-mod replies;
+pub mod script_calls;
 pub mod sequential;
 pub mod verifying;
 

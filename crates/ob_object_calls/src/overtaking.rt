@@ -10,7 +10,7 @@ ghost use Rattle.wf_history.specs.History.{Begin};
 ghost use Rattle.wf_history.specs.View.{event_of};
 ghost use Rattle.wf_history.specs.declared.event.CallId.{CallId};
 
-use crate::names::{is_same, place_in};
+use crate::call_names::{is_same, place_in};
 use ob_interface::NoMemory;
 use std::alloc::Global;
 use std::collections::HashSet;

@@ -16,11 +16,11 @@ ghost use Rattle.ob_store.specs.View.{state_of};
 ghost use Rattle.ob_typing.specs.ModuleText.{IsModule};
 ghost use Rattle.ob_typing.specs.Program.{Program};
 
-use crate::asked::{Asked, Beginning};
+use crate::asked_object::{Asked, Beginning};
 use crate::object::Object;
 use ob_carry::carrying::{CarryFault, carry};
-use ob_carry::named::NamedField;
-use ob_check::texts::{TextFault, checked_text};
+use ob_carry::fields_by_name::NamedField;
+use ob_check::checked_text::{TextFault, checked_text};
 use ob_checked::checked::Checked;
 use ob_code::generate;
 use ob_code_engine::CodeEngine;

@@ -2,7 +2,7 @@
 //! but `verify`, and `draw` and `explain` of a record.
 #![tactic(auto)]
 
-pub mod asked;
+pub mod asked_object;
 pub mod code_text;
 pub mod compiling;
 pub mod laws;
@@ -11,7 +11,7 @@ pub mod object;
 pub mod tree_compiling;
 pub mod tree_object;
 
-pub use asked::{Asked, Beginning};
+pub use asked_object::{Asked, Beginning};
 pub use compiling::{
     CompileFault, DEFAULT_BUDGET, MOST_BUDGET, compile, compile_asked, compile_from,
 };

@@ -9,10 +9,10 @@ ghost use Rattle.ob_object_compile.specs.View.{asked_of, tree_object_in};
 ghost use Rattle.ob_typing.specs.ModuleText.{IsModule};
 ghost use Rattle.ob_typing.specs.Program.{Program};
 
-use crate::asked::Asked;
+use crate::asked_object::Asked;
 use crate::compiling::{CompileFault, MOST_BUDGET, is_carried, opening_of};
 use crate::tree_object::TreeObject;
-use ob_check::texts::checked_text;
+use ob_check::checked_text::checked_text;
 use ob_interface::MOST_PROCESSES;
 use ob_layout::Layout;
 use std::alloc::Global;

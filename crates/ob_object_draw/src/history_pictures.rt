@@ -12,14 +12,14 @@ ghost use Rattle.ob_object_calls.specs.Beginnings.{BeginsPlaced, TrapsPlaced};
 ghost use Rattle.ob_picture_chart.specs.Faults.{IsRangeFault};
 ghost use Rattle.ob_picture_chart.specs.ChartView.{mark_of};
 
-use crate::faults::DrawHistoryFault;
 use crate::marking::{Marked, mark_of};
-use crate::showing::{Shown, shown_of};
-use ob_check::texts::checked_text;
+use crate::picture_faults::DrawHistoryFault;
+use crate::shown_history::{Shown, shown_of};
+use ob_check::checked_text::checked_text;
 use ob_checked::checked::Checked;
 use ob_interface::export::Export;
 use ob_object_search::Search;
-use ob_object_search::recording::hear;
+use ob_object_search::order_recording::hear;
 use ob_picture::picture;
 use ob_picture_chart::{CallRange, Mark, PictureFault, chart_of, placed_moments};
 use ob_scan::scanner::LONGEST_TEXT;

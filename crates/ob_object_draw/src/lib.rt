@@ -4,15 +4,15 @@
 //! One may rely on the clauses of the public functions, which are in the words of `specs/`.
 #![tactic(auto)]
 
-pub mod faults;
-pub mod forms;
 pub mod history_pictures;
+pub mod legal_part;
 pub mod marking;
-pub mod parts;
+pub mod picture_faults;
+pub mod record_form;
 pub mod record_pictures;
-pub mod showing;
+pub mod shown_history;
 
-pub use faults::DrawHistoryFault;
-pub use forms::is_record_form;
 pub use history_pictures::draw_history_text;
+pub use picture_faults::DrawHistoryFault;
+pub use record_form::is_record_form;
 pub use record_pictures::{DrawRecordFault, draw_record_text};

@@ -5,14 +5,14 @@
 //! conversation over a reader and a writer, in those of `specs/Pipes.antt`.
 #![tactic(auto)]
 
-pub mod asked;
-mod calls;
 pub mod conversation;
 pub mod live;
-pub mod parts;
-pub mod record;
+mod live_call;
+pub mod live_object;
+pub mod live_parts;
+pub mod live_record;
 pub mod talking;
 
-pub use asked::{live_object, live_talk};
 pub use conversation::{Conversation, Pipe, TalkFault};
-pub use parts::{Ground, Live, Told};
+pub use live_object::{live_object, live_talk};
+pub use live_parts::{Ground, Live, Told};

@@ -7,11 +7,11 @@ ghost use Rattle.ob_object_live.specs.Living.{AreTold, IsAt, OneMade, ground_of}
 ghost use Rattle.ob_text_words.specs.ScriptCalls as Calls;
 ghost use Rattle.ob_text_words.specs.ScriptCalls.{object_call, script_call_of};
 
-use crate::calls::{call_asked, push_call, push_next, push_reply};
-use crate::parts::{Ground, Live, Told};
-use crate::record::write_record;
+use crate::live_call::{call_asked, push_call, push_next, push_reply};
+use crate::live_parts::{Ground, Live, Told};
+use crate::live_record::write_record;
 use ob_interface::NoMemory;
-use ob_mean::object::step;
+use ob_mean::outside_call::step;
 use ob_text_scripts::{ScriptFault, read_scripts};
 use ob_text_words::script_call::ScriptCall;
 use std::alloc::{AllocError, Global};

@@ -6,8 +6,8 @@ ghost use Rattle.ob_object_live.specs.Talks.{TalksOn, TellsLine, fault_code, fau
 ghost use Rattle.ob_text_words.specs.ScriptCalls.{ScriptCall};
 
 use crate::conversation::{Conversation, TalkFault};
-use crate::parts::{Live, Told};
-use crate::record::remarked;
+use crate::live_parts::{Live, Told};
+use crate::live_record::remarked;
 use ob_text_scripts::ScriptFault;
 use ob_text_words::numbers::push_number;
 use std::alloc::{AllocError, Global};

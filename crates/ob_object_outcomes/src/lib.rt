@@ -5,22 +5,22 @@
 //! behind a story, may change without asking.
 #![tactic(auto)]
 
-mod ending;
 pub mod finding;
 pub mod laws;
-pub mod outcomes;
-pub mod parts;
+pub mod line_kinds;
+pub mod outcome_lines;
 mod question;
 pub mod scripted;
 mod scripts;
 pub mod stories;
+mod story_end;
 pub mod wholes;
 
 pub use finding::{
     Bounds, LastState, ModuleOutcomes, OutcomesFault, must_hold, outcomes_text, question_asked,
 };
-pub use outcomes::outcome_lines;
-pub use parts::{push_ids, push_order};
+pub use line_kinds::{push_ids, push_order};
+pub use outcome_lines::outcome_lines;
 pub use scripted::{Scripted, scripted_text};
 pub use stories::story;
 pub use wholes::{WholeOutcomes, wholes_text};

@@ -9,7 +9,7 @@ ghost use Rattle.wf_history.specs.View.{kept_call, kept_reply};
 use ob_interface::NoMemory;
 use ob_interface::export::{Export, Formal};
 use ob_interface::scalar::{Scalar, ScalarType};
-use ob_text_words::exports::export_named;
+use ob_text_words::export_names::export_named;
 use std::alloc::Global;
 use wf_history::{KeptCall, KeptReply, KeptScalars};
 

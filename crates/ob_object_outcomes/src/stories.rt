@@ -15,12 +15,12 @@ ghost use Rattle.wf_history.specs.View.{kept_call};
 ghost use Rattle.wf_outcomes.specs.Explored.{calls_in};
 
 use crate::Scripted;
-use crate::ending::{Failure, ending};
+use crate::story_end::{Failure, ending};
 use ob_checked::checked::Checked;
 use ob_interface::NoMemory;
 use ob_interface::export::Export;
 use ob_mean::call::{Call, Reply};
-use ob_mean::object::step;
+use ob_mean::outside_call::step;
 use ob_store::state::State;
 use ob_text_record::variables::{push_opening, push_state};
 use ob_text_record::{export_name, push_id, push_scalars};

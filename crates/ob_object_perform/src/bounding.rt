@@ -5,7 +5,7 @@ ghost use Rattle.ob_object_perform.specs.Numbers.{IsBoundText, number_line, numb
 ghost use Rattle.ob_object_compile.specs.Asked.{TellsAtOnce, by_body};
 ghost use Rattle.ob_object_compile.specs.Compilation.{IsRefusal, IsShort};
 
-use crate::numbers::{Numbers, numbers_of};
+use crate::object_numbers::{Numbers, numbers_of};
 use ob_interface::NoMemory;
 use ob_object_compile::{CompileFault, compile};
 use ob_text_words::numbers::push_number;

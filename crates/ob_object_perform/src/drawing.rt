@@ -11,7 +11,7 @@ ghost use Rattle.ob_text_record.specs.Record.{record_of};
 
 use crate::perform_running::run_with_makers;
 use crate::performing::{PerformFault, read_texts};
-use crate::texts::Texts;
+use crate::run_texts::Texts;
 use ob_checked::checked::Checked;
 use ob_interface::MOST_PROCESSES;
 use ob_picture::draw;

@@ -8,7 +8,7 @@ ghost use Rattle.ob_object_perform.specs.Printed.{IsRecordPrinted};
 ghost use Rattle.ob_object_perform.specs.Texts.{texts_of};
 
 use crate::performing::{PerformFault, performed};
-use crate::texts::Texts;
+use crate::run_texts::Texts;
 use ob_text_record::write_record;
 use std::alloc::Global;
 

@@ -15,8 +15,8 @@ ghost use Rattle.ob_typing.specs.ModuleText.{IsModule};
 ghost use Rattle.ob_typing.specs.Program.{Program};
 
 use crate::perform_running::run_on;
-use crate::texts::Texts;
-use ob_carry::named::NamedField;
+use crate::run_texts::Texts;
+use ob_carry::fields_by_name::NamedField;
 use ob_checked::checked::Checked;
 use ob_code_correct::laws::calls_fit;
 use ob_interface::NoMemory;

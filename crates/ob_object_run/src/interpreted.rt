@@ -1,11 +1,11 @@
 //! Calls of an order, made by the interpreter.
 
+use crate::history_replies::{call_in, object_reply};
 use crate::maker::CallMaker;
-use crate::replies::{call_in, object_reply};
 use ob_checked::checked::Checked;
 use ob_interface::NoMemory;
 use ob_interface::call::Reply;
-use ob_mean::object::step;
+use ob_mean::outside_call::step;
 use ob_store::state::State;
 use std::alloc::Global;
 use std::mem::replace;

@@ -5,15 +5,15 @@
 //! of each process's own calls, the bound on own steps, and that the checker accepts each record.
 #![tactic(auto)]
 
+mod event_places;
+mod history_replies;
 mod interpreted;
 pub mod laws;
 pub mod maker;
 mod noted;
-pub mod order;
-mod places;
+pub mod order_checker;
 pub mod recording;
-mod replies;
 
 pub use maker::CallMaker;
-pub use order::{OrderFault, check_order, check_order_by};
+pub use order_checker::{OrderFault, check_order, check_order_by};
 pub use recording::{record_run, recorded};

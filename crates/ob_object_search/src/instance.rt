@@ -10,19 +10,19 @@ ghost use Rattle.wf_history.specs.View.{seen_call};
 
 use crate::coding::module_code;
 use crate::kept::{KeptState, kept};
-use ob_carry::exports::read_only_exports;
+use ob_carry::silent_exports::read_only_exports;
 use ob_checked::checked::Checked;
 use ob_code_calls::ScalarCalls;
 use ob_interface::NoMemory;
 use ob_interface::call::Reply;
 use ob_mean::call as interpreter;
-use ob_mean::object::step;
+use ob_mean::outside_call::step;
 use ob_store::state::State;
 use smallvec::SmallVec;
 use std::alloc::{AllocError, Global};
 use wf_history::{SeenCall, SeenReply};
 use wf_order::Object;
-use wf_order::object::Words;
+use wf_order::searched_object::Words;
 
 /// The object of a checked module that begins with this state, each call with so many turns.
 #[derive(Drop)]

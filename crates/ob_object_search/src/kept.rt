@@ -6,7 +6,7 @@ ghost use Rattle.ob_object_search.specs.Kept.{kept_in};
 ghost use Rattle.ob_object_search.specs.Words.{words_of};
 ghost use Rattle.ob_store.specs.View.{state_of, variables_in};
 
-use crate::words::{scalar_words, words_in};
+use crate::state_words::{scalar_words, words_in};
 use ob_code_calls::scalars::Scalars;
 use ob_interface::NoMemory;
 use ob_interface::scalar::Scalar;
@@ -14,7 +14,7 @@ use ob_store::state::State;
 use ob_store::value::{Value, copy_all};
 use smallvec::SmallVec;
 use std::alloc::{AllocError, Global};
-use wf_order::object::Words;
+use wf_order::searched_object::Words;
 
 /// The values of the module's variables, without the memory that a call works in.
 #[derive(Drop)]

@@ -5,25 +5,25 @@
 //! has, and which replies are tried as evidence, may change without asking.
 #![tactic(auto)]
 
+mod call_end;
 mod candidates;
 mod coding;
-mod ending;
 pub mod fault;
 pub mod instance;
 pub mod kept;
 pub mod laws;
 pub mod naming_history;
+pub mod order_recording;
 mod possible;
-pub mod recording;
 pub mod searching;
 pub mod searching_parts;
-pub mod showing;
-mod words;
+mod state_words;
+pub mod witness;
 
 pub use fault::PartsFault;
 pub use instance::ModuleObject;
 pub use kept::KeptState;
-pub use recording::{RecordingFault, record_of_text};
+pub use order_recording::{RecordingFault, record_of_text};
 pub use searching::{Search, SearchFault, search_text};
 pub use searching_parts::{Part, search_parts_text};
-pub use showing::{Evidence, evidence_of_text};
+pub use witness::{Evidence, evidence_of_text};

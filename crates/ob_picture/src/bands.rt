@@ -12,7 +12,7 @@ ghost use Rattle.ob_picture_chart.specs.Svg.{Words, shape_text, shapes_text};
 
 use crate::bars::push_bar;
 use crate::marks::{push_help, push_mark};
-use crate::places::Band;
+use crate::pixels::Band;
 use ob_interface::export::Export;
 use ob_picture_chart::{
     Chart, Happening, Point, Sight, bar_of, close_words, open_words, push_line, push_numeral,

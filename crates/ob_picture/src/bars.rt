@@ -10,7 +10,7 @@ ghost use Rattle.ob_picture_chart.specs.LabelsView.{bar_in};
 ghost use Rattle.ob_picture_chart.specs.Svg.{EndGroup, Group, shape_text, shapes_text};
 ghost use Rattle.wf_history.specs.View.{seen_reply};
 
-use crate::places::{BEYOND, Band, Frame};
+use crate::pixels::{BEYOND, Band, Frame};
 use ob_interface::export::Export;
 use ob_picture_chart::{
     Bar, LETTER, Point, close_words, open_words, push_box, push_call, push_line, push_reply,

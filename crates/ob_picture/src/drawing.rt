@@ -9,11 +9,11 @@ ghost use Rattle.ob_picture_chart.specs.Faults.{IsRangeFault, MayBeShown};
 ghost use Rattle.ob_picture_chart.specs.ChartView.{chart_in, mark_of, moment_of};
 ghost use Rattle.ob_picture_chart.specs.Svg.{Words, shape_text, shapes_text};
 
+use crate::band_rows::rows_of;
 use crate::bands::push_band;
 use crate::legend::{push_call_keys, push_mark_keys, push_text_keys};
-use crate::order::push_order;
-use crate::places::{Band, Frame, TOP};
-use crate::rows::rows_of;
+use crate::order_row::push_order;
+use crate::pixels::{Band, Frame, TOP};
 use crate::spill::spill_of;
 use ob_interface::MOST_PROCESSES;
 use ob_interface::export::Export;

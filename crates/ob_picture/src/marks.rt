@@ -6,7 +6,7 @@ ghost use Rattle.ob_picture.specs.View.{band_in};
 ghost use Rattle.ob_picture_chart.specs.ChartView.{sight_of};
 ghost use Rattle.ob_picture_chart.specs.Svg.{shapes_text};
 
-use crate::places::Band;
+use crate::pixels::Band;
 use ob_picture_chart::{Happening, Point, Sight, push_circle, push_line, push_numeral};
 use std::alloc::AllocError;
 use wf_history::CallId;

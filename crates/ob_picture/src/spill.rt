@@ -7,7 +7,7 @@ ghost use Rattle.ob_picture_chart.specs.ChartView.{sight_of};
 ghost use Rattle.ob_picture_chart.specs.LabelsView.{bar_in};
 
 use crate::bars::{is_seen, left, letters};
-use crate::places::Frame;
+use crate::pixels::Frame;
 use ob_interface::export::Export;
 use ob_picture_chart::{Bar, Happening, LETTER, Sight, bar_of, most_letters};
 use std::alloc::{AllocError, Global};

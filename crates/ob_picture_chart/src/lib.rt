@@ -10,7 +10,7 @@ pub mod fault;
 pub mod labels;
 pub mod moments;
 mod order;
-mod places;
+mod order_places;
 mod row;
 pub mod svg;
 pub mod widths;

@@ -6,7 +6,7 @@ ghost use Rattle.ob_picture_chart.specs.Moments.{place_in};
 ghost use Rattle.ob_picture_chart.specs.Places.{noted_in};
 ghost use Rattle.wf_history.specs.declared.event.CallId.{CallId};
 
-use crate::places::Noted;
+use crate::order_places::Noted;
 use std::alloc::{AllocError, Global};
 use wf_history::CallId;
 

@@ -18,7 +18,7 @@ ghost use Rattle.ob_rules.specs.CheckingVariables.{room_of, known_variables};
 ghost use Rattle.ob_rules.specs.FirstParts.{DeclaresConstant, DeclaresType, DeclaresVariables};
 
 use crate::expressions::{expression, first_place};
-use crate::types::denoted;
+use crate::type_expressions::denoted;
 use ob_checked::program::Variable;
 use ob_checked::types::DataType;
 use ob_grammar::tree::{ConstDecl, Expr, Name, TypeDecl, VarDecl};

@@ -19,7 +19,9 @@ ghost use Rattle.ob_rules.specs.FirstParts.{ElementLeadsTo, FieldLeadsTo, Select
 use ob_checked::operators::type_of;
 use ob_checked::program::{Designator, Expression, Operation, Selector, Slot};
 use ob_checked::types::{DataType, Types};
-use ob_checked::written::{compares, operator_of, relation_of, same_scalar_type, takes_both};
+use ob_checked::written_operators::{
+    compares, operator_of, relation_of, same_scalar_type, takes_both,
+};
 use ob_grammar::tree;
 use ob_grammar::tree::{Expr, Name, Operand, Operator, Sign};
 use ob_interface::scalar::{Scalar, ScalarType};
@@ -28,8 +30,8 @@ use ob_scopes::constants::{
 };
 use ob_scopes::fault::{CheckFault, broken};
 use ob_scopes::meant::value_meant;
-use ob_scopes::parts::{elements_of, field_named, fields_of, simple_type};
 use ob_scopes::scopes::{Scopes, Value};
+use ob_scopes::type_parts::{elements_of, field_named, fields_of, simple_type};
 use ob_typing::rule::Rule;
 use std::alloc::Global;
 

@@ -4,6 +4,6 @@
 pub mod declarations;
 pub mod expressions;
 pub mod parameters;
-pub mod places;
 pub mod statements;
-pub mod types;
+pub mod targets;
+pub mod type_expressions;

@@ -23,13 +23,13 @@ ghost use Rattle.ob_rules.specs.ByScopes.{
 ghost use Rattle.ob_rules.specs.Checking.{Fails};
 ghost use Rattle.ob_rules.specs.FirstParts.{DeclaresSection};
 
-use crate::types::formal_type;
+use crate::type_expressions::formal_type;
 use ob_checked::program::Parameter;
 use ob_checked::types::{DataType, Types};
 use ob_grammar::tree::{Name, Section, TypeExpr};
 use ob_scopes::fault::{CheckFault, broken};
-use ob_scopes::parts::simple_type;
 use ob_scopes::scopes::Scopes;
+use ob_scopes::type_parts::simple_type;
 use ob_typing::rule::Rule;
 use std::alloc::Global;
 

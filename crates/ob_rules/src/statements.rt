@@ -19,15 +19,15 @@ ghost use Rattle.ob_rules.specs.CheckingStatements.{condition, called, kept};
 ghost use Rattle.ob_rules.specs.FirstParts.{StatementChecksTo};
 
 use crate::expressions::{expression, first_place};
-use crate::places::{designated, holds};
+use crate::targets::{designated, holds};
 use ob_checked::program::{Actual, Branch, Expression, Parameter, Statement};
-use ob_checked::written::same_scalar_type;
+use ob_checked::written_operators::same_scalar_type;
 use ob_grammar::tree;
 use ob_grammar::tree::{Expr, Name, Stmt};
 use ob_interface::scalar::ScalarType;
 use ob_scopes::constants::Usage;
 use ob_scopes::fault::{CheckFault, broken};
-use ob_scopes::same::same_type;
+use ob_scopes::same_types::same_type;
 use ob_scopes::scopes::{Meant, Scopes};
 use ob_typing::rule::Rule;
 use std::alloc::Global;

@@ -4,7 +4,7 @@
 pub mod constants;
 pub mod fault;
 pub mod meant;
-pub mod parts;
-pub mod same;
+pub mod same_types;
 pub mod scopes;
 pub mod taken;
+pub mod type_parts;

@@ -6,8 +6,8 @@ ghost use Rattle.ob_slips.specs.Behind.{IsNext, IsTold, next_mending, own_stage,
 ghost use Rattle.ob_slips.specs.Mendings.{phrase};
 
 use crate::mending::{Mending, mended, origin_in, phrase};
-use crate::remark::text_remark;
 use crate::slip::{is_further, mending_of};
+use crate::slip_remark::text_remark;
 use crate::stage::Stage;
 use crate::verdict::verdict;
 use ob_check::TextFault;

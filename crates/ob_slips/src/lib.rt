@@ -6,10 +6,10 @@
 
 pub mod behind;
 pub mod mending;
-pub mod remark;
 pub mod slip;
+pub mod slip_remark;
 pub mod stage;
 mod verdict;
 
 pub use behind::told_behind;
-pub use remark::text_remark;
+pub use slip_remark::text_remark;

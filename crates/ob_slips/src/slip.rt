@@ -8,8 +8,8 @@ ghost use Rattle.ob_slips.specs.Slips.{mending_at, mending_of, meant_for_byte, m
 
 use crate::mending::{Meant, Mending, origin};
 use ob_check::TextFault;
+use ob_messages::first_word::{is_same, is_same_in_any_case, word_at};
 use ob_messages::place::{halves, shown_place};
-use ob_messages::words::{is_same, is_same_in_any_case, word_at};
 use ob_parser::parser::ParseFault;
 use ob_scan::ScanFault;
 

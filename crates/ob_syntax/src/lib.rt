@@ -2,7 +2,7 @@
 #![tactic(auto)]
 
 pub mod printer;
-pub mod reader;
+pub mod tree_reader;
 
 pub use ob_grammar::tree as tree;
 pub use ob_interface::NoMemory;

@@ -9,13 +9,13 @@ ghost use Rattle.ob_text_words.specs.Finding.{FindsAs};
 ghost use Rattle.ob_text_words.specs.Words.{words};
 
 use crate::line::{read_reply, values_in};
-use crate::names::NamedCalls;
+use crate::named_processes::NamedCalls;
 use ob_interface::NoMemory;
 use ob_interface::call::Call;
 use ob_interface::export::Export;
-use ob_text_values_reading::taking::take_id;
-use ob_text_values_reading::words::next_word;
-use ob_text_words::exports::export_named;
+use ob_text_values_reading::line_words::next_word;
+use ob_text_values_reading::taken_names::take_id;
+use ob_text_words::export_names::export_named;
 use std::alloc::Global;
 use wf_history::{CallId, KeptCall, KeptReply};
 

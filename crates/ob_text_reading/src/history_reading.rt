@@ -11,7 +11,7 @@ ghost use Rattle.ob_text_reading.specs.RecordContents.{carried_of};
 ghost use Rattle.ob_text_words.specs.Words.{lines, words};
 
 use crate::RecordFault;
-use crate::reader::Reader;
+use crate::line_reader::Reader;
 use ob_checked::checked::Checked;
 use ob_store::state::State;
 use ob_store::value::Value;

@@ -3,17 +3,17 @@
 //! One may rely on the clauses of the public functions, which are in the words of `specs/`: what is read, and each fault of form with its place.
 #![tactic(auto)]
 
-pub mod calls;
 mod event;
 pub mod head;
 pub mod history_reading;
 pub mod laws;
 pub mod line;
-mod names;
-pub mod opening;
-mod reader;
+mod line_reader;
+mod named_processes;
+pub mod opening_values;
+pub mod process_calls;
 pub mod record_reading;
-mod written;
+mod written_lines;
 
 pub use history_reading::{ReadHistory, read_history};
 pub use record_reading::{ReadRecord, RecordFault, read_record};

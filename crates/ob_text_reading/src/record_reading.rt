@@ -11,11 +11,11 @@ ghost use Rattle.ob_text_values_reading.specs.Comments.{said};
 ghost use Rattle.ob_text_values_reading.specs.RecordTexts.{lines_behind};
 ghost use Rattle.ob_text_words.specs.Words.{lines, words};
 
-use crate::calls::Calls;
 use crate::head::{Head, plain_head, read_budget, read_count};
 use crate::line::{Line, read_line};
-use crate::opening::read_openings;
-use crate::written::take_written;
+use crate::opening_values::read_openings;
+use crate::process_calls::Calls;
+use crate::written_lines::take_written;
 use ob_checked::checked::Checked;
 use ob_interface::NoMemory;
 use ob_interface::export::Export;

@@ -6,7 +6,7 @@ ghost use Rattle.ob_text_record.specs.StateText.{announced_line, block_text, ove
 ghost use Rattle.ob_text_words.specs.Appending.{GoesOn};
 ghost use Rattle.wf_table.specs.Ranges.{IsShaped, IsSized};
 
-use crate::words::push_word;
+use crate::named_words::push_word;
 use ll_cell::Shared;
 use ob_text_words::numbers::push_count;
 use std::alloc::AllocError;

@@ -7,14 +7,14 @@
 mod blocks;
 mod events;
 pub mod laws;
-mod processes;
+mod named_words;
+pub mod printed_values;
+mod process_lines;
 pub mod record;
-mod schedule;
+mod schedule_line;
 pub mod state_lines;
 mod uses;
-pub mod values;
 pub mod variables;
-mod words;
 pub mod writing;
 
 pub use events::{export_name, push_id, push_scalars};

@@ -5,7 +5,7 @@ ghost use Rattle.ob_text_record.specs.StateText.{over_each, process_at, sizes_te
 ghost use Rattle.ob_text_words.specs.Appending.{GoesOn};
 
 use crate::blocks::{push_announcements, push_own_blocks, push_root};
-use crate::processes::push_process;
+use crate::process_lines::push_process;
 use ob_text_words::numbers::push_count;
 use std::alloc::{AllocError, Global};
 use wf_object::{Engine, Machine};

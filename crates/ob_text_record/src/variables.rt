@@ -6,7 +6,7 @@ ghost use Rattle.ob_store.specs.View.{state_of, value_in};
 ghost use Rattle.ob_text_words.specs.Appending.{GoesOn};
 ghost use Rattle.ob_text_record.specs.Variables.{line_behind, lines_behind, opening_text, state_text};
 
-use crate::values::push_value;
+use crate::printed_values::push_value;
 use ob_checked::program::{Program, Variable};
 use ob_checked::types::Types;
 use ob_store::state::State;

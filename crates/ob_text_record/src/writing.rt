@@ -10,7 +10,7 @@ ghost use Rattle.ob_text_words.specs.Appending.{GoesOn};
 
 use crate::Record;
 use crate::events::{push_events, push_ids};
-use crate::schedule::push_schedule;
+use crate::schedule_line::push_schedule;
 use crate::variables::{push_opening, push_state};
 use ob_checked::checked::Checked;
 use ob_checked::program::Program;

@@ -4,4 +4,4 @@
 #[cfg(test)]
 mod histories;
 #[cfg(test)]
-mod records;
+mod sample_records;

@@ -4,8 +4,8 @@ ghost use Rattle.std.specs.Prelude.{◌≡◌, ◌≤◌, ◌∷◌, ◌++◌, [
 ghost use Rattle.ob_text_words.specs.Words.{lines, words};
 ghost use Rattle.ob_text_values_reading.specs.Comments.{is_comment, line_number, lines_of, said, said_number};
 
+use crate::line_words::next_word;
 use crate::lines::{first_line, split_line};
-use crate::words::next_word;
 use memchr::memchr;
 use std::alloc::{AllocError, Global};
 

@@ -5,8 +5,8 @@ ghost use Rattle.ob_text_values_reading.specs.CallNames.{AreIds, IsId};
 ghost use Rattle.ob_text_words.specs.Words.{words};
 ghost use Rattle.wf_history.specs.declared.event.CallId.{CallId};
 
-use crate::taking::take_id;
-use crate::words::next_word;
+use crate::line_words::next_word;
+use crate::taken_names::take_id;
 use ob_text_words::numbers::{read_numeral, split_digits};
 use std::alloc::{AllocError, Global};
 use wf_history::CallId;

@@ -4,7 +4,7 @@ ghost use Rattle.std.specs.Prelude.{◌≡◌};
 ghost use Rattle.ob_text_values_reading.specs.LineKinds.{kind_of, kind_of_byte, place};
 ghost use Rattle.ob_text_words.specs.Words.{words};
 
-use crate::words::next_word;
+use crate::line_words::next_word;
 
 /// What a line may be, as its first byte tells.
 #[derive(Clone, Copy)]

@@ -6,8 +6,8 @@ ghost use Rattle.ob_text_values_reading.specs.RecordTexts.{IsFirstOther};
 ghost use Rattle.ob_text_values_reading.specs.RecordTexts.{IsTail};
 ghost use Rattle.ob_text_values_reading.specs.RecordTexts.{lines_behind};
 
+use crate::line_words::next_word;
 use crate::lines::split_line;
-use crate::words::next_word;
 
 /// The place of the first line whose first byte is neither `S` nor `V`, among those behind a line feed.
 pub fn first_other(behind: Option<&[u8]>) -> Option<usize>

@@ -9,7 +9,7 @@ ghost use Rattle.ob_scan.specs.Spelling.{number_value};
 ghost use Rattle.ob_text_values_reading.specs.LineBeginnings.{BeginsLine, BeginsWithId, BeginsWithProcess, BeginsWithValue, BeginsWithWord, TakesIds, ends_word};
 
 use ob_interface::scalar::{Scalar, ScalarType};
-use ob_text_words::parameters::read_value;
+use ob_text_words::parameter_words::read_value;
 use wf_history::CallId;
 
 /// The most digits that are read without a look at whether the number grows too large.

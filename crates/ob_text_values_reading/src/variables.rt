@@ -6,9 +6,9 @@ ghost use Rattle.ob_text_words.specs.Finding.{FindsAs};
 ghost use Rattle.ob_text_words.specs.Words.{words};
 ghost use Rattle.ob_text_values_reading.specs.Variables.{BeginsWith, IsVariableLine, SaysVariable};
 
-use crate::texts::{name_text, read_value};
-use crate::words::next_word;
-use ob_carry::named::NamedField;
+use crate::line_words::next_word;
+use crate::value_texts::{name_text, read_value};
+use ob_carry::fields_by_name::NamedField;
 use ob_interface::NoMemory;
 use ob_text_words::words::is_name;
 use std::alloc::Global;

@@ -8,7 +8,7 @@ use crate::text_beginning::front_value;
 use ob_interface::NoMemory;
 use ob_interface::export::Formal;
 use ob_interface::scalar::Scalar;
-use ob_text_words::parameters::is_of_mode;
+use ob_text_words::parameter_words::is_of_mode;
 use smallvec::SmallVec;
 use std::alloc::Global;
 use wf_history::KeptScalars;

@@ -9,12 +9,12 @@ ghost use Rattle.ob_traps.specs.TrapOfCall as Sites;
 ghost use Rattle.ob_traps.specs.Reaching.{site_of};
 ghost use Rattle.ob_traps.specs.Sequence.{IsSiteBehind, sites_from};
 
-use crate::object::site_of_call;
+use crate::call_site::site_of_call;
 use crate::site::Site;
 use ob_checked::checked::Checked;
 use ob_interface::NoMemory;
 use ob_mean::call::{Call, Reply};
-use ob_mean::object::step;
+use ob_mean::outside_call::step;
 use ob_store::state::State;
 use std::alloc::Global;
 

@@ -6,8 +6,8 @@ ghost use Rattle.ob_tree.specs.Acting.{Decides, Does, DoesAlways, HasFirst};
 ghost use Rattle.ob_tree_tasks.specs.Scoped.{own_in};
 ghost use Rattle.ob_tree_law.specs.Work as Work;
 
+use crate::body_run::TreeRun;
 use crate::effects::effect_at_once;
-use crate::run::TreeRun;
 use ob_checked::program::{Branch, Expression, Statement};
 use ob_code_machine::Instr;
 use ob_code_machine::effect::Answer;

@@ -10,13 +10,13 @@ ghost use Rattle.ob_code_scheme.specs.WellFormed.{IsWellFormed};
 ghost use Rattle.ob_meaning.specs.ByNameObject.{most_turns};
 ghost use Rattle.ob_tree_law.specs.TreeEngine.{work_room};
 
+use crate::body_run::TreeRun;
 use crate::reserve::room_for_work;
-use crate::run::TreeRun;
 use ob_checked::checked::Checked;
 use ob_code_correct::well_formed_laws::checked_is_well_formed;
 use ob_code_engine::Entrance;
+use ob_code_engine::call_words::{arguments_in, lay, split, trap_in, values_of};
 use ob_code_engine::entrance::{entrances, most_results, most_values};
-use ob_code_engine::words::{arguments_in, lay, split, trap_in, values_of};
 use ob_interface::NoMemory;
 use ob_interface::call::{Call, Reply};
 use ob_interface::scalar::Scalar;

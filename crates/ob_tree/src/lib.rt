@@ -2,14 +2,14 @@
 #![tactic(auto)]
 
 pub mod act;
+pub mod body_run;
+pub mod body_start;
 mod effects;
 pub mod engine;
 pub mod frames;
-pub mod procedures;
+pub mod procedure_work;
 pub mod reserve;
-pub mod run;
 pub mod settle;
-pub mod start;
-pub mod step;
+pub mod tree_step;
 
 pub use engine::TreeEngine;

@@ -2,13 +2,13 @@
 #![tactic(auto)]
 
 pub mod expressions;
-pub mod opening;
 pub mod scopes;
+pub mod silent_tasks;
 pub mod statements;
 pub mod task;
 pub mod work_list;
 
-pub use opening::open;
 pub use scopes::Scopes;
+pub use silent_tasks::open;
 pub use task::Task;
 pub use work_list::WorkList;

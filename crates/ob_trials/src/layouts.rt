@@ -3,7 +3,7 @@
 use ob_check::modules::check;
 use ob_layout::{Layout, encode};
 use ob_mean::openings::opening;
-use ob_syntax::reader::read;
+use ob_syntax::tree_reader::read;
 use std::test::Fail;
 
 const PARTS: &[u8] = b"MODULE Y; VAR a: ARRAY 3 OF RECORD p: INTEGER; q: BOOLEAN END; z: INTEGER; \

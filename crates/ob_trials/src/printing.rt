@@ -1,7 +1,7 @@
 //! Texts with their printed texts.
 
 use ob_syntax::printer::print;
-use ob_syntax::reader::read;
+use ob_syntax::tree_reader::read;
 use std::alloc::Global;
 use std::test::Fail;
 

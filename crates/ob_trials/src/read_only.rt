@@ -1,8 +1,8 @@
 //! Which exports are known to change no variable of their module.
 
-use ob_carry::exports::read_only_exports;
+use ob_carry::silent_exports::read_only_exports;
 use ob_check::modules::check;
-use ob_syntax::reader::read;
+use ob_syntax::tree_reader::read;
 use std::test::Fail;
 
 const COUNTER: &[u8] = b"MODULE C; TYPE Row = ARRAY 2 OF INTEGER; VAR x: INTEGER; row: Row; \

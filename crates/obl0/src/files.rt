@@ -8,7 +8,7 @@ ghost use Rattle.ob_device.specs.Devices.{IsAll};
 use ob_answer::answer::INPUT_NAME;
 use ob_answer_files::files::{FileFault, Files};
 use ob_device::{Counted, IoFault, slurp};
-use ob_fault_lines::counts::script_calls;
+use ob_fault_lines::call_counts::script_calls;
 use std::alloc::Global;
 use std::io::Read;
 use std::rt::Files as HostRead;

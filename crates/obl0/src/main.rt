@@ -16,7 +16,7 @@ use hint::{is_run, more_of};
 use ob_answer::answer::{INPUT_NAME, answer};
 use ob_answer::live_answer::answer_live;
 use ob_answer_files::answered::Answer;
-use ob_answer_files::reading::unreadable;
+use ob_answer_files::file_reading::unreadable;
 use ob_command::command::{CallsCommand, Command, read_command};
 use ob_device::{Counted, emit};
 use ob_fault_lines::count_lines::counts_line;

@@ -8,7 +8,7 @@ use crate::fixed_keys::FixedKeys;
 use ob_answer::answer::{Alone, answer_alone};
 use ob_answer_files::answered::Answer;
 use ob_answer_files::handed_files::GivenFiles;
-use ob_answer_files::texts::{Joined, texts_in};
+use ob_answer_files::joined_texts::{Joined, texts_in};
 use ob_interface::NoMemory;
 use std::alloc::{AllocError, Global};
 

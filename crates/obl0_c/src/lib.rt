@@ -19,7 +19,7 @@ use ob_answer::text_answers::{
 };
 use ob_answer_explained::explaining::explain_module;
 use ob_answer_files::handing::{hand, hand_whole};
-use ob_answer_files::texts::Joined;
+use ob_answer_files::joined_texts::Joined;
 use ob_answer_searches::order_answers::answer_order;
 use ob_command::command::{OrderCommand, OrderProduct};
 use ob_interface::MOST_PROCESSES;

@@ -4,7 +4,7 @@ ghost use Rattle.ob_answer_files.specs.Reads.{IsBeginning};
 ghost use Rattle.ob_object_compile.specs.View.{asked_of};
 ghost use Rattle.obl0_c.specs.Asked.{IsObjectOf};
 
-use ob_answer_files::reading::MODULE_BYTES;
+use ob_answer_files::file_reading::MODULE_BYTES;
 use ob_object_compile::{Asked, Beginning};
 
 /// The beginning of a module's text that shows whether it is too long.

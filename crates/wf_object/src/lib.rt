@@ -6,8 +6,8 @@ mod bodies;
 pub mod engine;
 pub mod machine;
 pub mod process;
-mod rows;
-mod seen;
+mod quiet_steps;
+mod shown_steps;
 mod start;
 mod steps;
 

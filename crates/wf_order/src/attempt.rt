@@ -8,12 +8,12 @@ ghost use Rattle.wf_order.specs.Search.{found_in, AreAllAnswered, AreAnswered, H
 ghost use Rattle.wf_order.specs.Steps.{Configuration};
 
 use crate::behind::is_behind;
-use crate::object::Object;
+use crate::compared_replies::{is_same_call, is_same_reply};
+use crate::next_call::{first_turn, turns_from};
 use crate::passing::replies_so;
-use crate::replies::{is_same_call, is_same_reply};
+use crate::searched_object::Object;
 use crate::seen::Seen;
 use crate::step::{Here, Silent, Task, Told, any_silent_step, ended_call, step};
-use crate::turn::{first_turn, turns_from};
 use crate::without::unless_left_out;
 use ob_interface::NoMemory;
 use wf_history::SeenReply;

@@ -6,7 +6,7 @@ ghost use Rattle.wf_history.specs.History.{Event};
 ghost use Rattle.wf_order.specs.Rules.{AreBehind};
 ghost use Rattle.wf_order.specs.Search.{found_in, IsAt};
 
-use crate::object::Object;
+use crate::searched_object::Object;
 use crate::sooner::{Spot, are_alike, has_sooner};
 use crate::step::{Here, Task, step};
 use ob_interface::NoMemory;

@@ -12,10 +12,10 @@ ghost use Rattle.wf_order.specs.Verdict.{HasLegal, IsBetween, IsHalved, IsLastFo
 
 use crate::front::{Front, farthest_of, frames_behind, go_on};
 use crate::keys::Keys;
-use crate::object::Object;
 use crate::quiet::Quiet;
 use crate::rows::{Rows, processes_of, rows_of};
 use crate::search::{Answer, search};
+use crate::searched_object::Object;
 use crate::seen::Seen;
 use crate::step::Task;
 use ob_interface::NoMemory;

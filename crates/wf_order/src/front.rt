@@ -9,9 +9,9 @@ ghost use Rattle.wf_order.specs.Search.{all_counts, all_found, AreWorded, IsGrow
 ghost use Rattle.wf_order.specs.Fronts.{AreFramed, AreSized, EndsBefore, IsFarthest, IsFound};
 ghost use Rattle.wf_order.specs.Steps.{start_at};
 
-use crate::object::Object;
 use crate::rows::{Rows, limit_of};
 use crate::search::{Frame, advance};
+use crate::searched_object::Object;
 use crate::seen::Seen;
 use crate::step::Task;
 use ob_interface::NoMemory;

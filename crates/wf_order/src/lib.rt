@@ -10,28 +10,28 @@
 
 mod attempt;
 mod behind;
+mod compared_replies;
 pub mod find;
 mod front;
 pub mod keys;
-mod listed;
 pub mod needed;
-pub mod object;
+mod next_call;
 pub mod opened;
+mod order_calls;
 mod passing;
-pub mod processes;
+pub mod process_count;
 mod quiet;
 mod replay;
-mod replies;
 pub mod rows;
 mod search;
+pub mod searched_object;
 mod seen;
 mod sooner;
 mod step;
-mod turn;
 mod without;
 
 pub use find::{Verdict, find_order};
 pub use needed::needed_order;
-pub use object::Object;
 pub use opened::open_calls;
-pub use processes::process_count;
+pub use process_count::process_count;
+pub use searched_object::Object;

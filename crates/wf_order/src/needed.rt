@@ -7,7 +7,7 @@ ghost use Rattle.wf_order.specs.Needed.{IsOpen, LeavesOut, NoneIsNeedless};
 ghost use Rattle.wf_order.specs.declared.listed.Listed as Rust;
 
 use crate::Object;
-use crate::listed::{Listed, listed_all, names_of};
+use crate::order_calls::{Listed, listed_all, names_of};
 use crate::replay::{after, onward, replays};
 use ob_interface::NoMemory;
 use std::alloc::Global;

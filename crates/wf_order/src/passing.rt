@@ -8,10 +8,10 @@ ghost use Rattle.wf_order.specs.Rows.{AreRows};
 ghost use Rattle.wf_order.specs.Search.{found_in, HasNext, IsAt, IsPassed, IsReadingNext, IsTold, IsWorded};
 ghost use Rattle.wf_order.specs.Steps.{IsLimit};
 
-use crate::object::Object;
-use crate::replies::{is_same_call, is_same_reply};
+use crate::compared_replies::{is_same_call, is_same_reply};
 use crate::rows::limit_of;
 use crate::search::Frame;
+use crate::searched_object::Object;
 use crate::seen::Found;
 use crate::step::{Here, Task, Told, ended_call, take_next};
 use ob_interface::NoMemory;

@@ -1,7 +1,7 @@
 //! Which calls an object tells to be silent, so that it is asked of few. It says where to ask, and the object's answer alone counts.
 
-use crate::object::Object;
 use crate::rows::{Begun, Ended, Rows};
+use crate::searched_object::Object;
 use ob_interface::NoMemory;
 use std::alloc::{AllocError, Global};
 

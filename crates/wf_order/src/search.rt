@@ -12,9 +12,9 @@ ghost use Rattle.wf_order.specs.Search.{found_in, all_found, ids_of, AreWorded, 
 ghost use Rattle.wf_order.specs.Steps.{Configuration, IsDone, IsLimit, start_at};
 
 use crate::attempt::{Attempt, chosen};
-use crate::object::Object;
 use crate::passing::passed;
 use crate::rows::limit_of;
+use crate::searched_object::Object;
 use crate::seen::{Found, Seen};
 use crate::step::{Here, Task, one_more};
 use ob_interface::NoMemory;

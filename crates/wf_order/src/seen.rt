@@ -4,7 +4,7 @@ ghost use Rattle.std.specs.Prelude.{◌≡◌, ◌<◌, ◌≤◌, ◌+◌, ◌+
 ghost use Rattle.wf_order.specs.Search.{found_in, all_found, AreWorded, IsWorded};
 
 use crate::keys::Keys;
-use crate::object::{Object, Words};
+use crate::searched_object::{Object, Words};
 use indexmap::IndexSet;
 use ob_interface::NoMemory;
 use smallvec::SmallVec;

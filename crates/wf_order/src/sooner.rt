@@ -7,7 +7,7 @@ ghost use Rattle.wf_order.specs.Rows.{AreAt, AreRows, call_at};
 ghost use Rattle.wf_order.specs.Rules.{ComesFirst, AreAlike, HasSooner};
 ghost use Rattle.wf_order.specs.Steps.{IsLimit};
 
-use crate::replies::{are_same_replies, is_same_call};
+use crate::compared_replies::{are_same_replies, is_same_call};
 use crate::rows::{Begun, Ended, Rows};
 
 /// A call by its process and its place in the row.

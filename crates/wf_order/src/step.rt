@@ -9,10 +9,10 @@ ghost use Rattle.wf_order.specs.Search.{found_in, HasNoStep, IsNever, IsNextStep
 ghost use Rattle.wf_order.specs.Rows.{call_at};
 ghost use Rattle.wf_order.specs.Steps.{one_more};
 
-use crate::object::Object;
+use crate::compared_replies::{is_same_call, is_same_reply};
 use crate::quiet::Quiet;
-use crate::replies::{is_same_call, is_same_reply};
 use crate::rows::{Begun, Ended, Rows};
+use crate::searched_object::Object;
 use crate::seen::{Counts, Found};
 use ob_interface::{NoMemory, call};
 use smallvec::SmallVec;

@@ -5,9 +5,10 @@
 //! configurations that as many calls lead to, and which of several orders is told, may change without asking.
 #![tactic(auto)]
 
-pub mod calls;
+pub mod all_replies;
+pub mod call_replies;
 pub mod counterexample;
-pub mod ends;
+pub mod end_states;
 pub mod explored;
 pub mod exploring;
 pub mod finals;
@@ -16,19 +17,18 @@ pub mod onward;
 pub mod outcomes;
 pub mod paths;
 pub mod remembered_calls;
-pub mod replies;
 pub mod reply_orders;
 pub mod seen;
 mod step;
 pub mod whole;
 
-pub use calls::ToldCall;
+pub use all_replies::ToldCall;
+pub use call_replies::Possible;
 pub use counterexample::{Bad, Question};
-pub use ends::ToldEnd;
+pub use end_states::ToldEnd;
 pub use explored::Explored;
 pub use exploring::{ExploreFault, explore};
 pub use onward::Onward;
 pub use outcomes::{Outcomes, all_told};
-pub use replies::Possible;
 pub use reply_orders::ToldReply;
 pub use whole::completes;

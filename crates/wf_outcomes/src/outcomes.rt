@@ -6,8 +6,8 @@ ghost use Rattle.wf_outcomes.specs.OutcomeOrders.{AreOutcomes, IsItself};
 ghost use Rattle.wf_outcomes.specs.View.{call_in, end_in};
 
 use crate::Explored;
-use crate::calls::{ToldCall, calls_told};
-use crate::ends::{ToldEnd, ends_told};
+use crate::all_replies::{ToldCall, calls_told};
+use crate::end_states::{ToldEnd, ends_told};
 use ob_interface::NoMemory;
 use std::alloc::Global;
 use wf_order::Object;

@@ -4,7 +4,7 @@ use indexmap::IndexSet;
 use std::rc::Rc;
 use wf_counts::Counts;
 use wf_order::keys::Keys;
-use wf_order::object::Words;
+use wf_order::searched_object::Words;
 
 /// A state, also in words.
 #[derive(Drop)]

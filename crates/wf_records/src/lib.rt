@@ -4,9 +4,9 @@
 //! One may rely on the clauses of the public functions; wf_object alone makes such records.
 #![tactic(auto)]
 
-pub mod calls;
 pub mod records;
 pub mod spent;
+pub mod submitted_calls;
 
-pub use calls::CallList;
 pub use records::{Records, Seen, StepOut};
+pub use submitted_calls::CallList;

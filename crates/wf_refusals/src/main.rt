@@ -4,14 +4,14 @@
 
 ghost use Rattle.std.specs.Prelude.{◌≡◌, ◌<◌, IfOk};
 
+mod machine_view;
 mod printed;
-mod seen;
 mod trouble;
 
+use machine_view::Watch;
 use ob_interface::call::Call;
 use ob_interface::scalar::Scalar;
 use printed::{print_answer, print_machine};
-use seen::Watch;
 use smallvec::SmallVec;
 use std::alloc::Global;
 use std::process::ExitCode;

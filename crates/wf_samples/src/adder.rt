@@ -1,6 +1,6 @@
 //! One word, to which each call adds its argument.
 
-use crate::words::{argument, scalar};
+use crate::scalar_words::{argument, scalar};
 use ob_interface::NoMemory;
 use ob_interface::call::{Call, Reply};
 use smallvec::SmallVec;

@@ -2,8 +2,8 @@
 #![tactic(auto)]
 
 pub mod adder;
+pub mod scalar_words;
 pub mod spin;
-pub mod words;
 
 pub use adder::Adder;
 pub use spin::Spin;

@@ -2,7 +2,7 @@
 
 ghost use Rattle.std.specs.Prelude.{◌<◌, ◌^◌};
 
-use crate::words::argument;
+use crate::scalar_words::argument;
 use ob_interface::NoMemory;
 use ob_interface::call::{Call, Reply};
 use smallvec::SmallVec;

@@ -9,6 +9,6 @@ pub mod commits;
 pub mod help;
 pub mod runs;
 pub mod standing;
-pub mod words;
+pub mod touched_words;
 
 pub use coded::CodedEngine;

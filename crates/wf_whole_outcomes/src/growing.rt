@@ -6,8 +6,8 @@ ghost use Rattle.wf_whole_outcomes.specs.Layers.{GrowsOver};
 ghost use Rattle.wf_whole_outcomes.specs.Nodes.{AreLists, AreNodes, IsArrived, IsGrown, IsNode, lists_in, spot_in, spots_in};
 
 use crate::edges::{Edge, known_edge};
+use crate::layers::LayersFault;
 use crate::nodes::{Layer, Lists, Node, node_on};
-use crate::search::LayersFault;
 use ob_interface::NoMemory;
 use std::alloc::Global;
 use std::hash::RandomState;

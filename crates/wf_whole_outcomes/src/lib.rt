@@ -8,16 +8,16 @@
 pub mod edges;
 mod graph;
 pub mod growing;
+pub mod layers;
 pub mod leaves;
 pub mod nodes;
-pub mod search;
 pub mod ways;
 pub mod wholes;
 
 pub use edges::Edge;
 pub use growing::{Came, Ground};
+pub use layers::{Front, LayersFault, search_all};
 pub use leaves::OrderRoom;
 pub use nodes::{Layer, Link, Lists, Node, Told};
-pub use search::{Front, LayersFault, search_all};
 pub use ways::way_back;
 pub use wholes::{ToldWholes, wholes_told};

@@ -9,7 +9,7 @@ use super::Body;
 use crate::code::Code;
 use crate::effect::{local_word, word_at};
 use crate::instr::Instr;
-use crate::operators::{Made, made_of_one, made_of_two};
+use crate::stack_operators::{Made, made_of_one, made_of_two};
 use crate::turn::BodyTurn;
 
 impl Body {

@@ -1,0 +1,148 @@
+//! Names of procedures and of what is declared, by the tokens of a text alone.
+
+ghost use Rattle.std.specs.Prelude.{◌≡◌, find};
+ghost use Rattle.ob_evidence.specs.Keywords.{first_of_statement, leads_there, next_behind};
+ghost use Rattle.ob_evidence.specs.Sites.{scene_of};
+
+use ob_evidence::names::leads_to_statement;
+use ob_evidence::text_site::{Site, is_kind};
+use ob_explain_tokens::actuals::ends_call;
+use ob_explain_tokens::open::{is_in_record, open_construct};
+use ob_scan::{Kind, Token};
+
+/// Whether a procedure of this name is declared among these tokens.
+pub(crate) fn is_procedure(site: &Site<'_, '_>, tokens: &[Token], word: &[u8]) -> bool {
+    let mut is_behind = false;
+    for token in tokens {
+        if is_behind && site.word_of(Some(*token)) == word {
+            return true;
+        }
+        is_behind = token.kind == Kind::Procedure;
+    }
+    false
+}
+
+/// Whether a record before the place has a field of this name.
+pub(crate) fn is_field(site: &Site<'_, '_>, word: &[u8]) -> bool {
+    let mut is_listed = false;
+    for (count, token) in site.before.iter().enumerate() {
+        if is_listed && site.word_of(Some(*token)) == word && is_field_place(site.before, count) {
+            return true;
+        }
+        is_listed = matches!(token.kind, Kind::Colon | Kind::Comma);
+    }
+    false
+}
+
+/// Whether the token before which so many of these stand, the last one first, stands in a record.
+fn is_field_place(before: &[Token], count: usize) -> bool {
+    let (_, rest) = before.split_at(count.min(before.len()));
+    is_in_record(rest)
+}
+
+/// Whether a `:` or a `,` stands behind this name.
+pub(crate) fn lists(site: &Site<'_, '_>, word: &[u8]) -> bool {
+    let mut is_named = false;
+    for token in site.tokens {
+        if is_named && matches!(token.kind, Kind::Colon | Kind::Comma) {
+            return true;
+        }
+        is_named = site.word_of(Some(*token)) == word;
+    }
+    false
+}
+
+/// Whether a `:=` stands behind the place before the end of the statement or of its condition.
+pub(crate) fn is_assigned(site: &Site<'_, '_>) -> bool {
+    let end = site
+        .behind
+        .iter()
+        .copied()
+        .find(|token| ends_statement(token.kind));
+    is_kind(end, Kind::Assign)
+}
+
+fn ends_statement(kind: Kind) -> bool {
+    ends_call(kind) || matches!(kind, Kind::Assign | Kind::Then | Kind::Do)
+}
+
+/// The name of the call that may end behind the place, or in whose parentheses it stands, where tokens of these kinds could stand.
+pub(crate) fn called(site: &Site<'_, '_>, could: &[Kind]) -> Option<Token> {
+    let ends_statement = could.contains(&Kind::End) || could.contains(&Kind::Until);
+    let ends = (could.contains(&Kind::Assign) && could.contains(&Kind::LeftParen))
+        || (is_kind(site.last(), Kind::RightParen) && ends_statement && !could.contains(&Kind::And))
+        || (could.contains(&Kind::RightParen) && could.contains(&Kind::Comma));
+    if ends { first_of_statement(site) } else { None }
+}
+
+/// The first token of the statement in which the place stands.
+pub(crate) fn first_of_statement(site: &Site<'_, '_>) -> Option<Token>
+    ensures { result ≡ first_of_statement (scene_of site.now) }
+{
+    match leader(site.before) {
+        Some(leader) => next_behind(site.tokens, leader.start),
+        None => None,
+    }
+}
+
+/// The first of these tokens behind which a statement may begin.
+fn leader(tokens: &[Token]) -> Option<Token>
+    ensures { result ≡ find leads_there tokens.now }
+{
+    tokens
+        .iter()
+        .copied()
+        .find(|token| leads_to_statement(token.kind))
+}
+
+/// Whether the statement in which the place stands begins with the name of a procedure and a `[`.
+pub(crate) fn begins_with_bracket(site: &Site<'_, '_>) -> bool {
+    match first_of_statement(site) {
+        Some(name) => {
+            is_kind(next_behind(site.tokens, name.start), Kind::LeftBracket)
+                && is_procedure(site, site.tokens, site.word_of(Some(name)))
+        }
+        None => false,
+    }
+}
+
+/// The first token behind a place.
+pub(crate) fn next_behind(tokens: &[Token], place: usize) -> Option<Token>
+    ensures { result ≡ next_behind tokens.now place }
+{
+    tokens.iter().copied().find(|token| place < token.start)
+}
+
+/// Whether the token there is to end a REPEAT, where tokens of these kinds could stand: a WHILE without a DO in place of UNTIL, or the
+/// end of the statements behind the condition of one.
+pub(crate) fn ends_repeat(site: &Site<'_, '_>, could: &[Kind]) -> bool {
+    let Some(here) = site.here() else {
+        return false;
+    };
+    (here.kind == Kind::While && could.contains(&Kind::Until) && !leads_on(site))
+        || (could.contains(&Kind::Do) && ends_call(here.kind) && is_in_repeat(site))
+}
+
+/// Whether a DO stands behind the place before the end of the statement.
+fn leads_on(site: &Site<'_, '_>) -> bool {
+    let place = site.place;
+    let end = site.tokens.iter().copied().find(|token| place < token.start
+        && (token.kind == Kind::Do || ends_call(token.kind)));
+    is_kind(end, Kind::Do)
+}
+
+/// Whether the construct that is open at the place stands in a REPEAT.
+fn is_in_repeat(site: &Site<'_, '_>) -> bool {
+    let Some(opening) = open_construct(site.before) else {
+        return false;
+    };
+    let start = opening.start;
+    let outside = site.before.iter().position(|token| token.start < start);
+    match outside {
+        Some(count) => {
+            let (_, before) = site.before.split_at(count.min(site.before.len()));
+            is_kind(open_construct(before), Kind::Repeat)
+        }
+        None => false,
+    }
+}
