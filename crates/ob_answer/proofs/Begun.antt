@@ -12,7 +12,7 @@ use Rattle.ob_answer.specs.declared.printed_forms.Product.{Product}
 use Rattle.ob_command.specs.CommandLine.{CallsRequest, RunRequest}
 use Rattle.ob_object_compile.specs.Asked.{Beginning}
 use Rattle.ob_text_values_reading.specs.ReadValues.{SaysNone}
-use Rattle.ob_text_values_reading.specs.declared.reading.ValuesFault.{ValuesFault}
+use Rattle.ob_text_values_reading.specs.declared.value_reading.ValuesFault.{ValuesFault}
 
 -- ---- calls
 

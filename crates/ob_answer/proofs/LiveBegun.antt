@@ -13,9 +13,9 @@ use Rattle.ob_fault_lines.specs.CompileFaultLines.{compile_line}
 use Rattle.ob_object_compile.specs.Asked.{Asked, Beginning, TellsAtOnce}
 use Rattle.ob_object_compile.specs.Compilation.{IsNumbered, IsRefusal, IsShort}
 use Rattle.ob_object_compile.specs.declared.compiling.CompileFault.{CompileFault}
-use Rattle.ob_object_live.specs.declared.parts.Live.{Live}
+use Rattle.ob_object_live.specs.declared.live_parts.Live.{Live}
 use Rattle.ob_text_values_reading.specs.ReadValues.{SaysNone}
-use Rattle.ob_text_values_reading.specs.declared.reading.ValuesFault.{ValuesFault}
+use Rattle.ob_text_values_reading.specs.declared.value_reading.ValuesFault.{ValuesFault}
 
 module _ {C : Type 0} (Hears Tells : C → List ℕ → C → Type 0) (start end : C) where
   pub live_begun : (calls : CallsRequest) (part whole script : List ℕ) (record_bytes : List (List ℕ)) (beginning : Beginning) (t : CallsTexts) (a : Answer)

@@ -52,8 +52,8 @@ use Rattle.ob_answer_searches.specs.ExplainedOrders.{IsHistoryExplained}
 use Rattle.ob_answer_searches.specs.Orders.{IsProductAnswer}
 use Rattle.ob_answer_files.specs.Printed.{IsPrinted, IsPrintedBeside, IsRefused, IsTextAnswer}
 use Rattle.ob_answer_files.specs.Reads.{IsOutcome, files_of_calls, files_of_run, record_in_calls, record_in_run}
-use Rattle.ob_answer_files.specs.declared.reading.CallsBytes.{CallsBytes}
-use Rattle.ob_answer_files.specs.declared.reading.RunBytes.{RunBytes}
+use Rattle.ob_answer_files.specs.declared.file_reading.CallsBytes.{CallsBytes}
+use Rattle.ob_answer_files.specs.declared.file_reading.RunBytes.{RunBytes}
 use Rattle.ob_answer.specs.Refusals.{RefusesPicture, RefusesRecordPicture, RefusesTreeRun, RefusesWorkers}
 use Rattle.ob_answer_explained.specs.Refusals.{RefusesCalls, RefusesObject, RefusesRecord, RefusesRun}
 

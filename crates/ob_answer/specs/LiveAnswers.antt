@@ -9,9 +9,9 @@ use Rattle.ob_answer_files.specs.Printed.{IsRefused, IsTextAnswer}
 use Rattle.ob_answer_files.specs.Reads.{AreReadPart, IsOutcome, IsUnread, files_of_calls, record_in_calls}
 use Rattle.ob_answer_files.specs.declared.answered.Answer.{Answer}
 use Rattle.ob_answer_files.specs.declared.files.FileFault.{FileFault}
-use Rattle.ob_answer_files.specs.declared.reading.CallsBytes.{CallsBytes}
-use Rattle.ob_answer_files.specs.declared.reading.CallsFiles.{CallsFiles}
-use Rattle.ob_answer_files.specs.declared.reading.CallsFiles.TheVariants.{Read, Unread}
+use Rattle.ob_answer_files.specs.declared.file_reading.CallsBytes.{CallsBytes}
+use Rattle.ob_answer_files.specs.declared.file_reading.CallsFiles.{CallsFiles}
+use Rattle.ob_answer_files.specs.declared.file_reading.CallsFiles.TheVariants.{Read, Unread}
 use Rattle.ob_command.specs.CommandLine.{CallsRequest, Text}
 use Rattle.ob_command.specs.Commands.{calls_request_of}
 use Rattle.ob_command.specs.declared.command.CallsCommand.{CallsCommand}

@@ -3,10 +3,10 @@ use Rattle.std.specs.Prelude.{ℕ, List, [], ◌∷◌, Option, None, Some}
 use Rattle.ob_answer_files.specs.declared.answered.Answer.{Answer}
 use Rattle.ob_carry.specs.Carried.{Entry}
 use Rattle.ob_carry.specs.View.{entries_of}
-use Rattle.ob_carry.specs.declared.named.NamedField.{NamedField}
+use Rattle.ob_carry.specs.declared.fields_by_name.NamedField.{NamedField}
 use Rattle.ob_object_compile.specs.Asked.{Beginning, ByBody, ByValues}
 use Rattle.ob_text_values_reading.specs.ReadValues.{AreValuesOf, IsValuesFault, SaysNone}
-use Rattle.ob_text_values_reading.specs.declared.reading.ValuesFault.{ValuesFault}
+use Rattle.ob_text_values_reading.specs.declared.value_reading.ValuesFault.{ValuesFault}
 
 -- by the module's body, where no record is named; else with the values that the record's bytes tell
 pub data Begins : List (List ℕ) → Beginning → Type 0 where

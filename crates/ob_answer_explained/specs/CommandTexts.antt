@@ -2,10 +2,10 @@
 use Rattle.std.specs.Prelude.{ℕ, List, [], ◌∷◌, Option, unwrap_or}
 use Rattle.ob_answer_files.specs.Reads.{record_in_calls, record_in_run}
 use Rattle.ob_answer_files.specs.ShownNames.{shown}
-use Rattle.ob_answer_files.specs.declared.reading.CallsBytes.{CallsBytes}
-use Rattle.ob_answer_files.specs.declared.reading.RunBytes.{RunBytes}
-use Rattle.ob_answer_explained.specs.declared.texts.Calls.{Calls}
-use Rattle.ob_answer_explained.specs.declared.texts.Run.{Run}
+use Rattle.ob_answer_files.specs.declared.file_reading.CallsBytes.{CallsBytes}
+use Rattle.ob_answer_files.specs.declared.file_reading.RunBytes.{RunBytes}
+use Rattle.ob_answer_explained.specs.declared.asked_texts.Calls.{Calls}
+use Rattle.ob_answer_explained.specs.declared.asked_texts.Run.{Run}
 use Rattle.ob_command.specs.CommandLine.{CallsRequest, RunRequest, Text}
 use Rattle.ob_command.specs.Commands.{calls_request_of, run_request_of}
 use Rattle.ob_command.specs.declared.command.CallsCommand.{CallsCommand}

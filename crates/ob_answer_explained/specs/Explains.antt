@@ -31,7 +31,7 @@ use Rattle.ob_object_calls.specs.declared.sequential.SeqTextFault.{SeqTextFault}
 use Rattle.ob_object_calls.specs.declared.sequential.SeqTextFault.TheVariants as Sequences
 use Rattle.ob_object_calls.specs.Verified.{IsVerified}
 use Rattle.ob_object_calls.specs.declared.verifying.VerifyFault.{VerifyFault}
-use Rattle.ob_text_values_reading.specs.declared.reading.ValuesFault.{ValuesFault}
+use Rattle.ob_text_values_reading.specs.declared.value_reading.ValuesFault.{ValuesFault}
 
 -- Where the files are right, `ok` is printed; else a fault by which they are refused is shown.
 pub data IsExplained {Fault : Type 0} (IsRight : Type 0) (Refuses : Fault → Type 0) (IsShown : Fault → Answer → Type 0) (answer : Answer) : Type 0 where

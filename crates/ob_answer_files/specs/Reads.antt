@@ -4,18 +4,18 @@ use Rattle.ob_command.specs.CommandLine.{CallsRequest, RunRequest, Text}
 use Rattle.ob_answer_files.specs.declared.answered.Answer.{Answer}
 use Rattle.ob_answer_files.specs.declared.files.FileFault.{FileFault}
 use Rattle.ob_answer_files.specs.declared.files.FileFault.TheVariants.{Unreadable}
-use Rattle.ob_answer_files.specs.declared.reading.CallsBytes.{CallsBytes}
-use Rattle.ob_answer_files.specs.declared.reading.CallsFiles.{CallsFiles}
-use Rattle.ob_answer_files.specs.declared.reading.CallsFiles.TheVariants as Calls
-use Rattle.ob_answer_files.specs.declared.reading.RecordFile.{RecordFile}
-use Rattle.ob_answer_files.specs.declared.reading.RecordFile.TheVariants as Record
-use Rattle.ob_answer_files.specs.declared.reading.RunBytes.{RunBytes}
-use Rattle.ob_answer_files.specs.declared.reading.RunFiles.{RunFiles}
-use Rattle.ob_answer_files.specs.declared.reading.RunFiles.TheVariants as Run
-use Rattle.ob_answer_files.specs.declared.reading.ThreeFiles.{ThreeFiles}
-use Rattle.ob_answer_files.specs.declared.reading.ThreeFiles.TheVariants as Three
-use Rattle.ob_answer_files.specs.declared.reading.TwoFiles.{TwoFiles}
-use Rattle.ob_answer_files.specs.declared.reading.TwoFiles.TheVariants as Two
+use Rattle.ob_answer_files.specs.declared.file_reading.CallsBytes.{CallsBytes}
+use Rattle.ob_answer_files.specs.declared.file_reading.CallsFiles.{CallsFiles}
+use Rattle.ob_answer_files.specs.declared.file_reading.CallsFiles.TheVariants as Calls
+use Rattle.ob_answer_files.specs.declared.file_reading.RecordFile.{RecordFile}
+use Rattle.ob_answer_files.specs.declared.file_reading.RecordFile.TheVariants as Record
+use Rattle.ob_answer_files.specs.declared.file_reading.RunBytes.{RunBytes}
+use Rattle.ob_answer_files.specs.declared.file_reading.RunFiles.{RunFiles}
+use Rattle.ob_answer_files.specs.declared.file_reading.RunFiles.TheVariants as Run
+use Rattle.ob_answer_files.specs.declared.file_reading.ThreeFiles.{ThreeFiles}
+use Rattle.ob_answer_files.specs.declared.file_reading.ThreeFiles.TheVariants as Three
+use Rattle.ob_answer_files.specs.declared.file_reading.TwoFiles.{TwoFiles}
+use Rattle.ob_answer_files.specs.declared.file_reading.TwoFiles.TheVariants as Two
 use Rattle.ob_answer_files.specs.Printed.{IsUnreadable}
 use Rattle.ob_scan.specs.Limits.{longest_text}
 

@@ -9,8 +9,8 @@ use Rattle.ob_answer_searches.specs.HistoryPictureAnswers.{IsHistoryPictureAnswe
 use Rattle.ob_object_draw.specs.DrawHistoryFaults as Drawn
 use Rattle.ob_object_draw.specs.DrawHistoryFaults.{IsDrawHistoryFault, RulesOut}
 use Rattle.ob_object_draw.specs.HistoryPictures.{HasNoPicture}
-use Rattle.ob_object_draw.specs.declared.faults.DrawHistoryFault.{DrawHistoryFault}
-use Rattle.ob_object_draw.specs.declared.faults.DrawHistoryFault.TheVariants as Drawings
+use Rattle.ob_object_draw.specs.declared.picture_faults.DrawHistoryFault.{DrawHistoryFault}
+use Rattle.ob_object_draw.specs.declared.picture_faults.DrawHistoryFault.TheVariants as Drawings
 use Rattle.ob_fault_lines.specs.HistoryFaultLines.{draw_history_fault_line}
 use Rattle.ob_picture_chart.specs.declared.charts.CallRange.{CallRange}
 

@@ -6,7 +6,7 @@ use Rattle.ob_typing.specs.Program.{Variable}
 use Rattle.wf_history.specs.View.{kept_reply}
 use Rattle.wf_whole_outcomes.specs.View.{wholes_from}
 use Rattle.ob_interface.specs.Call.{Reply}
-use Rattle.wf_whole_outcomes.specs.declared.search.Front.{Front}
+use Rattle.wf_whole_outcomes.specs.declared.layers.Front.{Front}
 use Rattle.wf_whole_outcomes.specs.declared.wholes.ToldWholes.{ToldWholes}
 
 -- the lines of the outcomes from a node on, which have these states

@@ -20,8 +20,8 @@ use Rattle.ob_object_search.specs.declared.fault.PartsFault.{PartsFault}
 use Rattle.ob_object_search.specs.declared.fault.PartsFault.TheVariants as Parts
 use Rattle.ob_object_search.specs.RecordingFaults as Recording
 use Rattle.ob_object_search.specs.RecordingFaults.{IsRecordingFault, SaysNoOrder}
-use Rattle.ob_object_search.specs.declared.recording.RecordingFault.{RecordingFault}
-use Rattle.ob_object_search.specs.declared.recording.RecordingFault.TheVariants as Recordings
+use Rattle.ob_object_search.specs.declared.order_recording.RecordingFault.{RecordingFault}
+use Rattle.ob_object_search.specs.declared.order_recording.RecordingFault.TheVariants as Recordings
 use Rattle.wf_history.specs.declared.event.CallId.{CallId}
 
 -- a fault with a number

@@ -5,8 +5,8 @@ use Rattle.ob_answer_files.specs.declared.answered.Answer.{Answer}
 use Rattle.ob_object_search.specs.SearchFaults as Searches
 use Rattle.ob_object_draw.specs.DrawHistoryFaults.{IsDrawHistoryFault, RulesOut}
 use Rattle.ob_object_draw.specs.HistoryPictures.{HasNoPicture, IsHistoryPicture}
-use Rattle.ob_object_draw.specs.declared.faults.DrawHistoryFault.{DrawHistoryFault}
-use Rattle.ob_object_draw.specs.declared.faults.DrawHistoryFault.TheVariants as Drawings
+use Rattle.ob_object_draw.specs.declared.picture_faults.DrawHistoryFault.{DrawHistoryFault}
+use Rattle.ob_object_draw.specs.declared.picture_faults.DrawHistoryFault.TheVariants as Drawings
 use Rattle.ob_fault_lines.specs.HistoryFaultLines.{draw_history_fault_line}
 use Rattle.ob_picture_chart.specs.declared.charts.CallRange.{CallRange}
 use Rattle.ob_picture_chart.specs.declared.fault.PictureFault.TheVariants as Pictures

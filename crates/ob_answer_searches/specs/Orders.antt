@@ -12,8 +12,8 @@ use Rattle.ob_object_search.specs.PartedFaults.{IsPartsFault}
 use Rattle.ob_object_search.specs.declared.fault.PartsFault.{PartsFault}
 use Rattle.ob_object_search.specs.RecordingFaults.{IsRecordingFault, SaysNoOrder, too_many}
 use Rattle.ob_object_search.specs.SearchRecords.{IsRecordFound}
-use Rattle.ob_object_search.specs.declared.recording.RecordingFault.{RecordingFault}
-use Rattle.ob_object_search.specs.declared.recording.RecordingFault.TheVariants as Recordings
+use Rattle.ob_object_search.specs.declared.order_recording.RecordingFault.{RecordingFault}
+use Rattle.ob_object_search.specs.declared.order_recording.RecordingFault.TheVariants as Recordings
 use Rattle.wf_history.specs.declared.event.CallId.{CallId}
 use Rattle.ob_answer_files.specs.declared.answered.Answer.{Answer}
 use Rattle.ob_fault_lines.specs.SearchFaultLines.{search_fault_line}

@@ -26,7 +26,7 @@ use Rattle.ob_checked.specs.declared.program.Program as Checked
 use Rattle.ob_carry.specs.Carried.{AreCarriable, AreDistinctEntries, AreValuesOf, Entry, IsCarriable, IsUnfit, IsUnknown, IsVariableFor, NoneNamed, carried, carried_to, given_or, position_from, value_given, value_or_initial}
 use Rattle.ob_carry.specs.Values.{AreElements, AreFieldsOf, IsScalarOf, IsValueOf}
 use Rattle.ob_carry.specs.View.{entries_of, entry_of, named_in}
-use Rattle.ob_carry.specs.declared.named.NamedField.{NamedField}
+use Rattle.ob_carry.specs.declared.fields_by_name.NamedField.{NamedField}
 use Rattle.ob_carry.proofs.Variables.{IsFirst, first_named, none_named, stands_for}
 
 -- what one entry more gives

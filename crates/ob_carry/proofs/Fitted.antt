@@ -13,8 +13,8 @@ use Rattle.ob_store.specs.View.{value_in, values_in}
 use Rattle.ob_meaning.specs.Same.{SameElements, SameFields, SameValue}
 use Rattle.ob_meaning.specs.ByNameValue as Named
 use Rattle.ob_meaning.specs.ByPositionValue as Values
-use Rattle.ob_carry.specs.declared.named.NamedField.{NamedField}
-use Rattle.ob_carry.specs.declared.named.NamedValue.{NamedValue}
+use Rattle.ob_carry.specs.declared.fields_by_name.NamedField.{NamedField}
+use Rattle.ob_carry.specs.declared.fields_by_name.NamedValue.{NamedValue}
 use Rattle.ob_carry.specs.Values.{IsValueOf, AreElements, AreFieldsOf, IsFitted, AreFittedElements, AreFittedFields}
 use Rattle.ob_carry.specs.View.{named_in, elements_of, fields_of}
 

@@ -11,8 +11,8 @@ use Rattle.ob_store.specs.View.{value_in, values_in}
 use Rattle.ob_meaning.specs.Same.{SameFields, SameValue}
 use Rattle.ob_meaning.specs.ByNameValue as Named
 use Rattle.ob_meaning.specs.ByPositionValue as Values
-use Rattle.ob_carry.specs.declared.named.NamedField.{NamedField}
-use Rattle.ob_carry.specs.declared.named.NamedValue.{NamedValue}
+use Rattle.ob_carry.specs.declared.fields_by_name.NamedField.{NamedField}
+use Rattle.ob_carry.specs.declared.fields_by_name.NamedValue.{NamedValue}
 use Rattle.ob_carry.specs.Values.{IsValueOf}
 use Rattle.ob_carry.specs.View.{elements_of, fields_of, named_in}
 use Rattle.ob_carry.specs.Names.{AreFieldNamesOf, AreNamesOf, IsNameOf}

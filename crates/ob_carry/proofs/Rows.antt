@@ -2,9 +2,9 @@
 use Rattle.std.proofs.Common.{◌≡◌, ◌∙◌, refl, ap, Vec, string_bytes}
 use Rattle.std.specs.declared.alloc.Global.{Global}
 use mathlib.Core.Former.{Count}
-use Rattle.ob_carry.specs.declared.named.NamedField.{NamedField}
-use Rattle.ob_carry.specs.declared.named.NamedValue.{NamedValue, Row_of-NamedValue, end_of-NamedValue, more_of-NamedValue, items-the_row-NamedValue, items_hidden-the_row-NamedValue-0, Row_of-NamedField, end_of-NamedField, more_of-NamedField, items-the_row-NamedField, items_hidden-the_row-NamedField-1}
-use Rattle.ob_carry.specs.declared.named.NamedValue.TheVariants as Variants
+use Rattle.ob_carry.specs.declared.fields_by_name.NamedField.{NamedField}
+use Rattle.ob_carry.specs.declared.fields_by_name.NamedValue.{NamedValue, Row_of-NamedValue, end_of-NamedValue, more_of-NamedValue, items-the_row-NamedValue, items_hidden-the_row-NamedValue-0, Row_of-NamedField, end_of-NamedField, more_of-NamedField, items-the_row-NamedField, items_hidden-the_row-NamedField-1}
+use Rattle.ob_carry.specs.declared.fields_by_name.NamedValue.TheVariants as Variants
 use Rattle.ob_carry.specs.View.{named_in, elements_in, fields_in, elements_of, fields_of}
 use Rattle.ob_meaning.specs.ByNameValue as Named
 

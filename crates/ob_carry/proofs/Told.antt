@@ -20,7 +20,7 @@ use Rattle.ob_typing.specs.Program.{Name, Program, Variable}
 use Rattle.ob_carry.specs.Carried.{AreCarriable, Entry, IsCarriable, IsVariableFor, carried_to, given_or, value_given, value_or_initial, variable_named}
 use Rattle.ob_carry.specs.Values.{IsValueOf}
 use Rattle.ob_carry.specs.View.{entries_of, entry_of, named_in}
-use Rattle.ob_carry.specs.declared.named.NamedField.{NamedField}
+use Rattle.ob_carry.specs.declared.fields_by_name.NamedField.{NamedField}
 use Rattle.ob_carry.specs.Names.{IsNameOf}
 use Rattle.ob_carry.specs.NamedValues.{AreToldOf, CarryBack}
 

@@ -1,8 +1,8 @@
 -- What named values stand for: no pointers, and vectors as lists.
 use Rattle.std.specs.Prelude.{List, [], ◌∷◌, map, string_bytes}
-use Rattle.ob_carry.specs.declared.named.NamedValue.{NamedValue, Row_of-NamedValue, end_of-NamedValue, more_of-NamedValue, Row_of-NamedField, end_of-NamedField, more_of-NamedField}
-use Rattle.ob_carry.specs.declared.named.NamedValue.TheVariants.{Single, Elements', Fields'}
-use Rattle.ob_carry.specs.declared.named.NamedField.{NamedField}
+use Rattle.ob_carry.specs.declared.fields_by_name.NamedValue.{NamedValue, Row_of-NamedValue, end_of-NamedValue, more_of-NamedValue, Row_of-NamedField, end_of-NamedField, more_of-NamedField}
+use Rattle.ob_carry.specs.declared.fields_by_name.NamedValue.TheVariants.{Single, Elements', Fields'}
+use Rattle.ob_carry.specs.declared.fields_by_name.NamedField.{NamedField}
 use Rattle.ob_carry.specs.Carried.{Entry}
 use Rattle.ob_meaning.specs.ByNameValue as Named
 

@@ -1,7 +1,7 @@
 -- What is compiled, of the values that make calls.
 use Rattle.std.specs.Prelude.{length}
 use Rattle.ob_code_calls.specs.Calls.{HasRoom}
-use Rattle.ob_code_calls.specs.declared.calls.CodeCalls.{CodeCalls}
+use Rattle.ob_code_calls.specs.declared.block_calls.CodeCalls.{CodeCalls}
 use Rattle.ob_code_calls.specs.declared.room.Room.{Room}
 use Rattle.ob_code_correct.specs.CodeMeaning.{EngineParts}
 

@@ -1,7 +1,7 @@
 -- What the enums of the code stand for.
 use Rattle.std.specs.Prelude.{ℤ}
-use Rattle.ob_code_machine.specs.declared.operators.Made.{Made as MadeInCode}
-use Rattle.ob_code_machine.specs.declared.operators.Made.TheVariants.{Word, Trap, Stuck}
+use Rattle.ob_code_machine.specs.declared.stack_operators.Made.{Made as MadeInCode}
+use Rattle.ob_code_machine.specs.declared.stack_operators.Made.TheVariants.{Word, Trap, Stuck}
 use Rattle.ob_code_machine.specs.Words.{Made, Gives, Traps, Sticks}
 
 abbrev pub made_in : MadeInCode → Made ℤ

@@ -16,8 +16,8 @@ use Rattle.ob_messages.specs.Places.{shown_place}
 use Rattle.ob_messages.specs.Remarks.{Remark}
 use Rattle.ob_messages.specs.Said.{Evidence, hint_text, sentence_text}
 use Rattle.ob_messages.specs.declared.matcher.View.{View}
-use Rattle.ob_messages.specs.declared.table.Number.{Number}
-use Rattle.ob_messages.specs.declared.table.Number.TheVariants as Numbers
+use Rattle.ob_messages.specs.declared.table_rows.Number.{Number}
+use Rattle.ob_messages.specs.declared.table_rows.Number.TheVariants as Numbers
 
 -- where a place is shown: the end, at which a token is missing, behind the last byte that is no blank
 abbrev pub shown_at : Number → (text : List ℕ) → (place : ℕ) → ℕ

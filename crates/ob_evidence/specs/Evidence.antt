@@ -9,10 +9,10 @@ use Rattle.ob_explain_tokens.specs.Actuals.{actual_count}
 use Rattle.ob_explain_tokens.specs.Open.{IsInRecord, IsOpenConstruct}
 use Rattle.ob_explain_tokens.specs.Parens.{is_in_parens}
 use Rattle.ob_messages.specs.Said.{Evidence}
-use Rattle.ob_messages.specs.declared.table.Fact.{Fact}
-use Rattle.ob_messages.specs.declared.table.Fact.TheVariants as Facts
-use Rattle.ob_messages.specs.declared.table.Number.{Number}
-use Rattle.ob_messages.specs.declared.table.Number.TheVariants as Numbers
+use Rattle.ob_messages.specs.declared.table_rows.Fact.{Fact}
+use Rattle.ob_messages.specs.declared.table_rows.Fact.TheVariants as Facts
+use Rattle.ob_messages.specs.declared.table_rows.Number.{Number}
+use Rattle.ob_messages.specs.declared.table_rows.Number.TheVariants as Numbers
 use Rattle.ob_evidence.specs.Constructs.{AreShown, IsOpen, inner_of, opening_of}
 use Rattle.ob_explain_names.specs.Expected.{AreExpected}
 use Rattle.ob_evidence.specs.Facts.{facts_in}

@@ -12,8 +12,8 @@ use Rattle.ob_explain_names.specs.Declarations.{first_of}
 use Rattle.ob_explain_tokens.specs.Around.{AreTokens}
 use Rattle.ob_explain_tokens.specs.Around as Tokens
 use Rattle.ob_messages.specs.Places.{place_in}
-use Rattle.ob_evidence.specs.declared.site.Site as Rust
-use Rattle.ob_evidence.specs.declared.site.Around.{Around}
+use Rattle.ob_evidence.specs.declared.text_site.Site as Rust
+use Rattle.ob_evidence.specs.declared.text_site.Around.{Around}
 
 -- a place of a text, with the text's tokens, those before the place (the last one first) and those behind it, and the names that are
 -- visible there

@@ -6,17 +6,17 @@ use Rattle.ob_scan.specs.declared.token.Token.{Token}
 use Rattle.ob_explain_tokens.specs.Kinds.{ends_operand}
 use Rattle.ob_explain_parts.specs.Forms.{form_before, form_behind, form_instead, other, role_of}
 use Rattle.ob_explain_parts.specs.Parameters.{parameter_form}
-use Rattle.ob_explain_parts.specs.declared.forms.Form.{Form}
-use Rattle.ob_explain_parts.specs.declared.forms.Form.TheVariants as Forms
+use Rattle.ob_explain_parts.specs.declared.operand_types.Form.{Form}
+use Rattle.ob_explain_parts.specs.declared.operand_types.Form.TheVariants as Forms
 use Rattle.ob_explain_tokens.specs.Around as Tokens
-use Rattle.ob_messages.specs.declared.table.Fact.{Fact}
-use Rattle.ob_messages.specs.declared.table.Fact.TheVariants as Facts
-use Rattle.ob_messages.specs.declared.table.Type.{«Type»}
-use Rattle.ob_messages.specs.declared.table.Type.TheVariants as Shown
+use Rattle.ob_messages.specs.declared.table_rows.Fact.{Fact}
+use Rattle.ob_messages.specs.declared.table_rows.Fact.TheVariants as Facts
+use Rattle.ob_messages.specs.declared.table_rows.Type.{«Type»}
+use Rattle.ob_messages.specs.declared.table_rows.Type.TheVariants as Shown
 use Rattle.ob_evidence.specs.Sites.{Scene, here, last}
-use Rattle.ob_evidence.specs.declared.types.Operator.{Operator}
-use Rattle.ob_evidence.specs.declared.types.Operator.TheVariants as Operators
-use Rattle.ob_evidence.specs.declared.types.Types.{Types}
+use Rattle.ob_evidence.specs.declared.needed_types.Operator.{Operator}
+use Rattle.ob_evidence.specs.declared.needed_types.Operator.TheVariants as Operators
+use Rattle.ob_evidence.specs.declared.needed_types.Types.{Types}
 
 -- ---- what stands at the place
 

@@ -8,7 +8,7 @@ use Rattle.ob_explain_arguments.specs.Values.{mark_sentence}
 use Rattle.ob_explain_arguments.specs.DeclaredNames.{IsDeclared}
 use Rattle.ob_explain_arguments.specs.Misfits.{TellsMisfit}
 use Rattle.ob_explain_arguments.specs.Sentences.{count_sentence, unknown_text, value_sentence}
-use Rattle.ob_explain_arguments.specs.declared.call.Told as Declared
+use Rattle.ob_explain_arguments.specs.declared.call_line.Told as Declared
 use Rattle.ob_explain_arguments.specs.declared.misfit.Misfit.{Misfit}
 use Rattle.ob_explain_arguments.specs.declared.misfit.Misfit.TheVariants.{Count, Value}
 

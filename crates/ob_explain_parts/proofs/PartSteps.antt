@@ -3,8 +3,8 @@ use Rattle.std.proofs.Common.{◌≡◌, ℕ, ◌+◌, ◌<◌, ◌≤◌, true,
 use Rattle.ob_scan.specs.declared.token.Token.{Token}
 use Rattle.ob_explain_names.specs.declared.known.Known.{Known}
 use Rattle.ob_explain_parts.specs.Parts.{ends_parts, part_behind, selected, selecting_behind}
-use Rattle.ob_explain_parts.specs.declared.parts.Selecting.{Selecting}
-use Rattle.ob_explain_parts.specs.declared.types.Standing.{Standing}
+use Rattle.ob_explain_parts.specs.declared.variable_parts.Selecting.{Selecting}
+use Rattle.ob_explain_parts.specs.declared.declared_types.Standing.{Standing}
 
 module _ (text : List ℕ) (known : List Known) (tokens : List Token) where
   step : (selecting : Selecting) (part : Option Standing) (ts : List Token) (i : ℕ) (d : Token) → i < length ts →

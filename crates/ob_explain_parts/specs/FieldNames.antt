@@ -9,8 +9,8 @@ use Rattle.ob_explain_tokens.specs.Around as Tokens
 use Rattle.ob_explain_names.specs.Declarations.{declared_as}
 use Rattle.ob_explain_parts.specs.Parts.{operand_start, selected}
 use Rattle.ob_explain_parts.specs.Types.{declared_type, fields_of, meant}
-use Rattle.ob_explain_parts.specs.declared.parts.Selecting.TheVariants.{Part}
-use Rattle.ob_explain_parts.specs.declared.types.Standing.{Standing}
+use Rattle.ob_explain_parts.specs.declared.variable_parts.Selecting.TheVariants.{Part}
+use Rattle.ob_explain_parts.specs.declared.declared_types.Standing.{Standing}
 
 -- the tokens behind a name, up to a place
 abbrev pub between : List Token → (used place : ℕ) → List Token

@@ -14,14 +14,14 @@ use Rattle.ob_explain_names.specs.Numerals.{numeral_behind}
 use Rattle.ob_explain_parts.specs.Inside.{has_truth}
 use Rattle.ob_explain_parts.specs.Parts.{is_value, operand_start, selected}
 use Rattle.ob_explain_parts.specs.Types.{declared_type, meant}
-use Rattle.ob_explain_parts.specs.declared.forms.Form.{Form}
-use Rattle.ob_explain_parts.specs.declared.forms.Form.TheVariants.{Integer, Boolean, Single, Array, Record, Unknown}
-use Rattle.ob_explain_parts.specs.declared.forms.Role.{Role}
-use Rattle.ob_explain_parts.specs.declared.forms.Role.TheVariants.{Compared, Actual, Joined, Other}
+use Rattle.ob_explain_parts.specs.declared.operand_types.Form.{Form}
+use Rattle.ob_explain_parts.specs.declared.operand_types.Form.TheVariants.{Integer, Boolean, Single, Array, Record, Unknown}
+use Rattle.ob_explain_parts.specs.declared.operand_types.Role.{Role}
+use Rattle.ob_explain_parts.specs.declared.operand_types.Role.TheVariants.{Compared, Actual, Joined, Other}
 use Rattle.ob_explain_names.specs.declared.numerals.Numeral.{Numeral}
-use Rattle.ob_explain_parts.specs.declared.parts.Selection.{Selection}
-use Rattle.ob_explain_parts.specs.declared.parts.Selecting.TheVariants.{Part}
-use Rattle.ob_explain_parts.specs.declared.types.Standing.{Standing}
+use Rattle.ob_explain_parts.specs.declared.variable_parts.Selection.{Selection}
+use Rattle.ob_explain_parts.specs.declared.variable_parts.Selecting.TheVariants.{Part}
+use Rattle.ob_explain_parts.specs.declared.declared_types.Standing.{Standing}
 
 -- a word that is one of the language's own names, and none of the visible ones
 abbrev pub is_own : (text : List ℕ) → List Known → (word own : List ℕ) → Bool

@@ -12,10 +12,10 @@ use Rattle.ob_explain_names.specs.Declarations.{declared_as}
 use Rattle.ob_explain_parts.specs.Forms.{form_of_type}
 use Rattle.ob_explain_tokens.specs.Kinds.{is_colon, is_name, is_right, is_semicolon}
 use Rattle.ob_explain_parts.specs.Types.{declared_type}
-use Rattle.ob_explain_parts.specs.declared.forms.Form.{Form}
-use Rattle.ob_explain_parts.specs.declared.forms.Form.TheVariants as Forms
-use Rattle.ob_explain_parts.specs.declared.parameters.Handed.{Handed}
-use Rattle.ob_explain_parts.specs.declared.types.Standing.{Standing}
+use Rattle.ob_explain_parts.specs.declared.operand_types.Form.{Form}
+use Rattle.ob_explain_parts.specs.declared.operand_types.Form.TheVariants as Forms
+use Rattle.ob_explain_parts.specs.declared.handed_parameter.Handed.{Handed}
+use Rattle.ob_explain_parts.specs.declared.declared_types.Standing.{Standing}
 
 -- a token that stands in no call: the call is what stands behind it
 abbrev pub is_outside : Kind → Bool

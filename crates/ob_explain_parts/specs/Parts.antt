@@ -6,10 +6,10 @@ use Rattle.ob_explain_names.specs.Lookup.{name_at}
 use Rattle.ob_explain_names.specs.declared.known.Known.{Known}
 use Rattle.ob_explain_tokens.specs.Kinds.{closes_bracket, is_dot, is_name, is_number, opens_bracket, selects}
 use Rattle.ob_explain_parts.specs.Types.{element_of, field_of, meant}
-use Rattle.ob_explain_parts.specs.declared.parts.Selection.{Selection}
-use Rattle.ob_explain_parts.specs.declared.parts.Selecting.{Selecting}
-use Rattle.ob_explain_parts.specs.declared.parts.Selecting.TheVariants.{Part, Dot, Index}
-use Rattle.ob_explain_parts.specs.declared.types.Standing.{Standing}
+use Rattle.ob_explain_parts.specs.declared.variable_parts.Selection.{Selection}
+use Rattle.ob_explain_parts.specs.declared.variable_parts.Selecting.{Selecting}
+use Rattle.ob_explain_parts.specs.declared.variable_parts.Selecting.TheVariants.{Part, Dot, Index}
+use Rattle.ob_explain_parts.specs.declared.declared_types.Standing.{Standing}
 
 -- ---- from the name on
 

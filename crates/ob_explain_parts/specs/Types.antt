@@ -11,7 +11,7 @@ use Rattle.ob_explain_names.specs.Declarations.{behind_token, is_named, type_tok
 use Rattle.ob_explain_parts.specs.Fields.{fields_behind}
 use Rattle.ob_explain_tokens.specs.Kinds.{is_array, is_of, is_record}
 use Rattle.ob_explain_parts.specs.declared.fields.Listing.TheVariants.{Names}
-use Rattle.ob_explain_parts.specs.declared.types.Standing.{Standing}
+use Rattle.ob_explain_parts.specs.declared.declared_types.Standing.{Standing}
 
 -- what is declared at a place has the type that begins with a token
 abbrev pub type_from : (place : ℕ) → Option Token → Option Standing

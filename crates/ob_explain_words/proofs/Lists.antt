@@ -3,7 +3,7 @@ use Rattle.std.proofs.Common.{◌≡◌, ℕ, ◌+◌, ◌<◌, ◌≤◌, true,
 use Rattle.std.specs.Prelude.{option_and_then}
 use Rattle.ob_scan.specs.declared.token.Token.{Token}
 use Rattle.ob_explain_words.specs.Types.{ends_lists, list_words, reading_behind, with_list}
-use Rattle.ob_explain_words.specs.declared.listed.Reading.{Reading}
+use Rattle.ob_explain_words.specs.declared.type_lists.Reading.{Reading}
 
 step : (words : List Token → Option ℕ) (last total : ℕ) (reading : Reading) (ts : List Token) (i : ℕ) (d : Token) → i < length ts →
     list_words words last total reading (drop i ts)

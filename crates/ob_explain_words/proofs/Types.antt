@@ -6,7 +6,7 @@ use Rattle.ob_explain_tokens.specs.Kinds.{is_array, is_record}
 use Rattle.ob_explain_words.specs.Lengths.{length_behind}
 use Rattle.ob_explain_words.specs.Scopes.{Scope}
 use Rattle.ob_explain_words.specs.Types.{list_words, simple_words, type_words}
-use Rattle.ob_explain_words.specs.declared.listed.Reading.TheVariants.{Names}
+use Rattle.ob_explain_words.specs.declared.type_lists.Reading.TheVariants.{Names}
 
 pub no_type : (s : Scope) (deep : ℕ) (ts : List Token) → length ts < 1 → type_words s deep ts ≡ None
 unfolding type_words

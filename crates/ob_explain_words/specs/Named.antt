@@ -1,7 +1,7 @@
 -- The words of types that have a name.
 use Rattle.std.specs.Prelude.{ℕ, ◌||◌, Bool, List, bytes_eq, codes, find, reverse, Option, Some, None, if◌then◌else◌}
 use Rattle.ob_explain_names.specs.Lookup.{name_at}
-use Rattle.ob_explain_words.specs.declared.named.NamedType.{NamedType}
+use Rattle.ob_explain_words.specs.declared.named_types.NamedType.{NamedType}
 
 abbrev pub is_named : (text word : List ℕ) → NamedType → Bool
 is_named text word type = bytes_eq (name_at text type.place) word

@@ -2,7 +2,7 @@
 use Rattle.std.specs.Prelude.{ℕ, List}
 use Rattle.ob_scan.specs.declared.token.Token.{Token}
 use Rattle.ob_explain_names.specs.declared.known.Known.{Known}
-use Rattle.ob_explain_words.specs.declared.named.NamedType.{NamedType}
+use Rattle.ob_explain_words.specs.declared.named_types.NamedType.{NamedType}
 use Rattle.ob_explain_words.specs.declared.scope.Scope as Rust
 
 -- a text with its tokens, the names that are declared before the type, and those of them that are types

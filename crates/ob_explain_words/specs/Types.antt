@@ -10,8 +10,8 @@ use Rattle.ob_explain_words.specs.Kinds.{is_listed}
 use Rattle.ob_explain_words.specs.Lengths.{length_behind}
 use Rattle.ob_explain_words.specs.Named.{named_words}
 use Rattle.ob_explain_words.specs.Scopes.{Scope}
-use Rattle.ob_explain_words.specs.declared.listed.Reading.{Reading}
-use Rattle.ob_explain_words.specs.declared.listed.Reading.TheVariants.{Names, Within}
+use Rattle.ob_explain_words.specs.declared.type_lists.Reading.{Reading}
+use Rattle.ob_explain_words.specs.declared.type_lists.Reading.TheVariants.{Names, Within}
 
 -- ---- lists of names with their types: the fields of a record, or variables
 

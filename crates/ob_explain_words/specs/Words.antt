@@ -10,8 +10,8 @@ use Rattle.ob_explain_words.specs.Counts.{sum_of}
 use Rattle.ob_explain_words.specs.Kinds.{is_var}
 use Rattle.ob_explain_words.specs.Scopes.{Scope}
 use Rattle.ob_explain_words.specs.Types.{list_words, type_words}
-use Rattle.ob_explain_words.specs.declared.listed.Reading.TheVariants.{Names}
-use Rattle.ob_explain_words.specs.declared.named.NamedType.{NamedType}
+use Rattle.ob_explain_words.specs.declared.type_lists.Reading.TheVariants.{Names}
+use Rattle.ob_explain_words.specs.declared.named_types.NamedType.{NamedType}
 
 -- types within more than so many others are not told; the rules have none
 abbrev pub deepest : ℕ

@@ -5,7 +5,7 @@ use Rattle.ob_messages.specs.Remarks.{Remark}
 use Rattle.ob_explained.specs.Explained.{IsObjectExplanation}
 use Rattle.ob_explained.specs.RunRemarks.{IsAtItem, IsRunScriptRemark, IsScheduleRemark, long_item_sentence}
 use Rattle.ob_explained.specs.Sources.{Source, shown_in, source_of}
-use Rattle.ob_explained.specs.declared.source.Source as Rust
+use Rattle.ob_explained.specs.declared.named_texts.Source as Rust
 use Rattle.ob_object_perform.specs.declared.performing.PerformFault.{PerformFault}
 use Rattle.ob_object_perform.specs.declared.performing.PerformFault.TheVariants as Runs
 use Rattle.ob_text_scripts.specs.declared.script.ScriptFault.{ScriptFault}

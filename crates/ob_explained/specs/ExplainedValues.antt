@@ -4,9 +4,9 @@ use Rattle.std.specs.Prelude.{◌≡◌, ℕ, List, Option, String, option_map, 
 use Rattle.ob_carry.specs.declared.carrying.CarryFault.{CarryFault}
 use Rattle.ob_messages.specs.Remarks.{Remark}
 use Rattle.ob_explained.specs.Sources.{Source, shown_in, source_of}
-use Rattle.ob_explained.specs.declared.source.Source as Rust
+use Rattle.ob_explained.specs.declared.named_texts.Source as Rust
 use Rattle.ob_explained.specs.ValueMarks.{IsCarryRemark, IsValuesRemark}
-use Rattle.ob_text_values_reading.specs.declared.reading.ValuesFault.{ValuesFault}
+use Rattle.ob_text_values_reading.specs.declared.value_reading.ValuesFault.{ValuesFault}
 
 -- of values that are not carried over
 pub record IsCarryExplanation (source : Source) (fault : CarryFault) (shown : Option (List ℕ)) : Type 0 where

@@ -3,8 +3,8 @@ use Rattle.std.specs.Prelude.{ℕ, ◌-◌, ◌≤◌, List, length}
 use Rattle.ob_explained.specs.Marks.{MarksWord}
 use Rattle.ob_explained.specs.ItemPlaces.{IsItemAt}
 use Rattle.ob_text_words.specs.Schedule.{item_words}
-use Rattle.ob_text_words.specs.declared.schedule.ScheduleFault.{ScheduleFault}
-use Rattle.ob_text_words.specs.declared.schedule.ScheduleFault.TheVariants as Schedule
+use Rattle.ob_text_words.specs.declared.schedule_texts.ScheduleFault.{ScheduleFault}
+use Rattle.ob_text_words.specs.declared.schedule_texts.ScheduleFault.TheVariants as Schedule
 
 -- a place in a schedule at which the item of a number begins as a word of its line; its end, where it has fewer items
 pub data MarksItem (text : List ℕ) (number : ℕ) : ℕ → Type 0 where

@@ -5,8 +5,8 @@ use Rattle.ob_explained.specs.ScriptPlaces.{first_place, in_line}
 use Rattle.ob_explained.specs.CallRemarks.{IsScriptRemark}
 use Rattle.ob_explain_arguments.specs.Items.{item_sentence}
 use Rattle.ob_explained.specs.ItemPlaces.{IsItemPlace, item_at}
-use Rattle.ob_text_words.specs.declared.schedule.ScheduleFault.{ScheduleFault}
-use Rattle.ob_text_words.specs.declared.schedule.ScheduleFault.TheVariants as Schedule
+use Rattle.ob_text_words.specs.declared.schedule_texts.ScheduleFault.{ScheduleFault}
+use Rattle.ob_text_words.specs.declared.schedule_texts.ScheduleFault.TheVariants as Schedule
 use Rattle.ob_text_scripts.specs.declared.script.ScriptFault.{ScriptFault}
 use Rattle.ob_text_scripts.specs.declared.script.ScriptFault.TheVariants as Script
 

@@ -2,7 +2,7 @@
 use Rattle.std.specs.Prelude.{ℕ, List, Option, option_map}
 use Rattle.ob_messages.specs.Explanations.{explanation}
 use Rattle.ob_messages.specs.Remarks.{Remark}
-use Rattle.ob_explained.specs.declared.source.Source as Rust
+use Rattle.ob_explained.specs.declared.named_texts.Source as Rust
 
 pub record Source : Type 0 where
   pub name : List ℕ

@@ -5,8 +5,8 @@ use Rattle.ob_carry.specs.declared.carrying.CarryFault.TheVariants as Carry
 use Rattle.ob_messages.specs.Remarks.{Remark}
 use Rattle.ob_explained.specs.Marks.{MarksWord}
 use Rattle.ob_explained.specs.ValueLines.{value_lines}
-use Rattle.ob_text_values_reading.specs.declared.reading.ValuesFault.{ValuesFault}
-use Rattle.ob_text_values_reading.specs.declared.reading.ValuesFault.TheVariants as Values
+use Rattle.ob_text_values_reading.specs.declared.value_reading.ValuesFault.{ValuesFault}
+use Rattle.ob_text_values_reading.specs.declared.value_reading.ValuesFault.TheVariants as Values
 
 -- a place at a word of the line in which the value at a position stands
 pub record MarksValue (text : List ℕ) (position word place : ℕ) : Type 0 where

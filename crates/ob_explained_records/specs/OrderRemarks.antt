@@ -5,8 +5,8 @@ use Rattle.ob_explained_lines.specs.Lines.{IsLine}
 use Rattle.ob_explained_records.specs.MadeTexts.{other_reply_text}
 use Rattle.ob_explained_records.specs.OrderPlaces.{IsEndPlace, IsOrderPlace}
 use Rattle.ob_explained_lines.specs.declared.record_line.Wanted.TheVariants as Wants
-use Rattle.ob_object_run.specs.declared.order.OrderFault.{OrderFault}
-use Rattle.ob_object_run.specs.declared.order.OrderFault.TheVariants as Order
+use Rattle.ob_object_run.specs.declared.order_checker.OrderFault.{OrderFault}
+use Rattle.ob_object_run.specs.declared.order_checker.OrderFault.TheVariants as Order
 use Rattle.ob_object_calls.specs.MadeCalls.{MadeCall}
 use Rattle.ob_object_calls.specs.RecordCalls.{IsCallFound, IsCallOvertaken}
 use Rattle.ob_text_record.specs.RecordText.{id_text}

@@ -15,8 +15,8 @@ use Rattle.ob_object_calls.specs.Verified.{IsLegalRecord}
 use Rattle.ob_object_calls.specs.VerifyFaults.{of_order}
 use Rattle.ob_object_calls.specs.declared.verifying.VerifyFault.TheVariants as Faults
 use Rattle.ob_object_run.specs.LegalOrder.{CallEnds}
-use Rattle.ob_object_run.specs.declared.order.OrderFault.{OrderFault}
-use Rattle.ob_object_run.specs.declared.order.OrderFault.TheVariants as Order
+use Rattle.ob_object_run.specs.declared.order_checker.OrderFault.{OrderFault}
+use Rattle.ob_object_run.specs.declared.order_checker.OrderFault.TheVariants as Order
 use Rattle.ob_text_reading.specs.RecordLines.{IsRecord, Told}
 use Rattle.ob_typing.specs.Program.{Program}
 use Rattle.wf_history.proofs.Positions.{place_of}

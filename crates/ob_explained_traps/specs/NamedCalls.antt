@@ -1,7 +1,7 @@
 -- How calls are named: those of a script by their processes, and in which lines they stand; those of a record by their names there.
 use Rattle.std.specs.Prelude.{◌≡◌, ℕ, ◌+◌, ◌<◌, ◌==◌, List, [], ◌++◌, codes, count_by, decimal, length, slice_index, slice_index_or, take}
-use Rattle.ob_explained_traps.specs.declared.named.Calls as Declared
-use Rattle.ob_explained_traps.specs.declared.named.Calls.TheVariants as Variants
+use Rattle.ob_explained_traps.specs.declared.told_calls.Calls as Declared
+use Rattle.ob_explained_traps.specs.declared.told_calls.Calls.TheVariants as Variants
 use Rattle.wf_history.specs.declared.event.CallId.{CallId}
 
 -- the calls of a script by these processes, in these lines of the file of this name; or those of a record's order

@@ -10,8 +10,8 @@ use Rattle.ob_meaning.specs.ByPositionStore.{Activation}
 use Rattle.ob_meaning.specs.Same.{SameState}
 use Rattle.ob_object_calls.specs.Beginnings.{BeginsNamed, BeginsPlaced}
 use Rattle.ob_object_calls.specs.MadeCalls.{NeverBegan}
-use Rattle.ob_object_run.specs.declared.order.OrderFault.{OrderFault}
-use Rattle.ob_object_run.specs.declared.order.OrderFault.TheVariants as Order
+use Rattle.ob_object_run.specs.declared.order_checker.OrderFault.{OrderFault}
+use Rattle.ob_object_run.specs.declared.order_checker.OrderFault.TheVariants as Order
 use Rattle.ob_text_reading.specs.RecordLines.{IsRecord, Told}
 use Rattle.ob_traps.specs.Sequence.{sites_from}
 use Rattle.ob_traps.specs.Site.{Site}

@@ -2,7 +2,7 @@
 use Rattle.std.specs.Prelude.{◌≡◌, ℕ, List, All, Option, map, option_map}
 use Rattle.ob_checked.specs.Exports.{signatures}
 use Rattle.ob_explained.specs.Sources.{Source, source_of}
-use Rattle.ob_explained.specs.declared.source.Source as Rust
+use Rattle.ob_explained.specs.declared.named_texts.Source as Rust
 use Rattle.ob_meaning.specs.ByNameObject.{replies_to}
 use Rattle.ob_object_compile.specs.Asked.{Asked}
 use Rattle.ob_object_compile.specs.Compilation.{IsCompilation, ObjectParts}

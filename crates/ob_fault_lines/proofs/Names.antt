@@ -4,7 +4,7 @@ use Rattle.std.proofs.lemmas.Option.{slice_get-get_or, slice_get-map, slice_get_
 use Rattle.std.specs.Option.{option_map_or}
 use Rattle.ob_carry.specs.Carried.{Entry}
 use Rattle.ob_carry.specs.View.{entries_of, entry_of}
-use Rattle.ob_carry.specs.declared.named.NamedField.{NamedField}
+use Rattle.ob_carry.specs.declared.fields_by_name.NamedField.{NamedField}
 use Rattle.ob_fault_lines.specs.CompileFaultLines.{name_in}
 
 module _ (values : List NamedField) (position : ℕ) where

@@ -3,8 +3,8 @@ use Rattle.std.specs.Prelude.{codes}
 use Rattle.ob_fault_lines.specs.DrawFaultLines.{picture_line}
 use Rattle.ob_fault_lines.specs.ModuleFaultLines.{Text}
 use Rattle.ob_fault_lines.specs.SearchFaultLines.{search_fault_line}
-use Rattle.ob_object_draw.specs.declared.faults.DrawHistoryFault.{DrawHistoryFault}
-use Rattle.ob_object_draw.specs.declared.faults.DrawHistoryFault.TheVariants as Drawings
+use Rattle.ob_object_draw.specs.declared.picture_faults.DrawHistoryFault.{DrawHistoryFault}
+use Rattle.ob_object_draw.specs.declared.picture_faults.DrawHistoryFault.TheVariants as Drawings
 
 abbrev pub draw_history_fault_line : DrawHistoryFault → Text
 draw_history_fault_line (Drawings.Search e) = search_fault_line e

@@ -2,8 +2,8 @@
 use Rattle.std.specs.Prelude.{codes}
 use Rattle.ob_fault_lines.specs.ModuleFaultLines.{Text}
 use Rattle.ob_fault_lines.specs.SearchFaultLines.{search_fault_line}
-use Rattle.ob_object_search.specs.declared.recording.RecordingFault.{RecordingFault}
-use Rattle.ob_object_search.specs.declared.recording.RecordingFault.TheVariants as Recordings
+use Rattle.ob_object_search.specs.declared.order_recording.RecordingFault.{RecordingFault}
+use Rattle.ob_object_search.specs.declared.order_recording.RecordingFault.TheVariants as Recordings
 
 abbrev pub recording_fault_line : RecordingFault → Text
 recording_fault_line (Recordings.Search e) = search_fault_line e

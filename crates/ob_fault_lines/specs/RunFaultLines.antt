@@ -3,8 +3,8 @@ use Rattle.std.specs.Prelude.{ℕ, ◌++◌, codes, decimal}
 use Rattle.ob_object_compile.specs.Asked.{Beginning}
 use Rattle.ob_object_perform.specs.declared.performing.PerformFault.{PerformFault}
 use Rattle.ob_object_perform.specs.declared.performing.PerformFault.TheVariants as Faults
-use Rattle.ob_text_words.specs.declared.schedule.ScheduleFault.{ScheduleFault}
-use Rattle.ob_text_words.specs.declared.schedule.ScheduleFault.TheVariants as Schedule
+use Rattle.ob_text_words.specs.declared.schedule_texts.ScheduleFault.{ScheduleFault}
+use Rattle.ob_text_words.specs.declared.schedule_texts.ScheduleFault.TheVariants as Schedule
 use Rattle.ob_fault_lines.specs.CompileFaultLines.{compile_line}
 use Rattle.ob_fault_lines.specs.ModuleFaultLines.{Text, no_memory_line}
 use Rattle.ob_fault_lines.specs.ScriptFaultLines.{script_line}

@@ -1,7 +1,7 @@
 -- The line that tells why a record isn't verified.
 use Rattle.std.specs.Prelude.{◌++◌, codes}
-use Rattle.ob_object_run.specs.declared.order.OrderFault.{OrderFault}
-use Rattle.ob_object_run.specs.declared.order.OrderFault.TheVariants as Order
+use Rattle.ob_object_run.specs.declared.order_checker.OrderFault.{OrderFault}
+use Rattle.ob_object_run.specs.declared.order_checker.OrderFault.TheVariants as Order
 use Rattle.ob_object_calls.specs.declared.verifying.VerifyFault.{VerifyFault}
 use Rattle.ob_object_calls.specs.declared.verifying.VerifyFault.TheVariants as Faults
 use Rattle.ob_text_record.specs.RecordText.{id_text}

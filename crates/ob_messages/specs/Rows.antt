@@ -9,14 +9,14 @@ use Rattle.ob_messages.specs.Words.{is_same_in_any_case}
 use Rattle.ob_messages.specs.contracts.table.Fact as facts
 use Rattle.ob_messages.specs.contracts.table.Number as numbers
 use Rattle.ob_messages.specs.declared.matcher.View.{View}
-use Rattle.ob_messages.specs.declared.table.Fact.{Fact}
-use Rattle.ob_messages.specs.declared.table.Number.{Number}
-use Rattle.ob_messages.specs.declared.table.Number.TheVariants as number
-use Rattle.ob_messages.specs.declared.table.PieceOf.{PieceOf}
-use Rattle.ob_messages.specs.declared.table.PieceOf.TheVariants as piece
-use Rattle.ob_messages.specs.declared.table.RowOf.{RowOf}
-use Rattle.ob_messages.specs.declared.table.WhenOf.{WhenOf}
-use Rattle.ob_messages.specs.declared.table.WhenOf.TheVariants as when
+use Rattle.ob_messages.specs.declared.table_rows.Fact.{Fact}
+use Rattle.ob_messages.specs.declared.table_rows.Number.{Number}
+use Rattle.ob_messages.specs.declared.table_rows.Number.TheVariants as number
+use Rattle.ob_messages.specs.declared.table_rows.PieceOf.{PieceOf}
+use Rattle.ob_messages.specs.declared.table_rows.PieceOf.TheVariants as piece
+use Rattle.ob_messages.specs.declared.table_rows.RowOf.{RowOf}
+use Rattle.ob_messages.specs.declared.table_rows.WhenOf.{WhenOf}
+use Rattle.ob_messages.specs.declared.table_rows.WhenOf.TheVariants as when
 use Rattle.ob_messages.specs.declared.construct_rows.TheConstants.{CONSTRUCT_ROWS, MISSING_ROWS}
 use Rattle.ob_messages.specs.declared.function_rows.TheConstants.{FUNCTION_ROWS}
 use Rattle.ob_messages.specs.declared.sentence_rows.TheConstants.{END_ROWS, LIMIT_ROWS, SENTENCE_ROWS, TYPE_ROWS}

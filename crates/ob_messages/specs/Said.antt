@@ -11,8 +11,8 @@ use Rattle.ob_messages.specs.contracts.table.Type.{the_type}
 use Rattle.ob_messages.specs.declared.matcher.View.{View}
 use Rattle.ob_messages.specs.declared.said.Evidence.{Evidence as EvidenceOf}
 use Rattle.ob_messages.specs.declared.said.TheConstants.{MAKINGS, TYPES}
-use Rattle.ob_messages.specs.declared.table.PieceOf.TheVariants as piece
-use Rattle.ob_messages.specs.declared.table.Type.{«Type»}
+use Rattle.ob_messages.specs.declared.table_rows.PieceOf.TheVariants as piece
+use Rattle.ob_messages.specs.declared.table_rows.Type.{«Type»}
 
 -- ---- types
 

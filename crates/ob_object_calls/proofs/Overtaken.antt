@@ -5,7 +5,7 @@ use Rattle.std.specs.List.{Contains}
 use Rattle.ob_interface.specs.Call.{ObjectCall, Reply}
 use Rattle.ob_object_run.specs.OrderFaults.{IsListFault}
 use Rattle.ob_object_run.specs.Places.{BeginsAt}
-use Rattle.ob_object_run.specs.declared.order.OrderFault.TheVariants as Order
+use Rattle.ob_object_run.specs.declared.order_checker.OrderFault.TheVariants as Order
 use Rattle.ob_object_calls.proofs.Items.{behind_here, split_here}
 use Rattle.ob_object_calls.specs.Early.{IsEnded, IsOvertaken, IsOvertakenFound}
 use Rattle.ob_object_calls.specs.MadeCalls.{NeverBegan}

@@ -4,8 +4,8 @@ use Rattle.ob_mean.specs.declared.openings.OpenFault.{OpenFault}
 use Rattle.ob_mean.specs.declared.openings.OpenFault.TheVariants as Open
 use Rattle.ob_object_run.specs.LegalOrder.{CallEnds, IsLegalOrder}
 use Rattle.ob_object_run.specs.OrderFaults.{IsOrderFault}
-use Rattle.ob_object_run.specs.declared.order.OrderFault.{OrderFault}
-use Rattle.ob_object_run.specs.declared.order.OrderFault.TheVariants as Order
+use Rattle.ob_object_run.specs.declared.order_checker.OrderFault.{OrderFault}
+use Rattle.ob_object_run.specs.declared.order_checker.OrderFault.TheVariants as Order
 use Rattle.ob_object_calls.proofs.Beginnings.{no_trap, one_state, one_trap}
 use Rattle.ob_object_calls.proofs.OneLine.{one_among}
 use Rattle.ob_object_calls.specs.Beginnings.{BeginsPlaced, IsBeginningFault, TrapsPlaced}

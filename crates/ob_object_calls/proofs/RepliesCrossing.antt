@@ -3,7 +3,7 @@ use Rattle.std.proofs.Common.{◌≡◌, ℕ, List, false, None, Option, Some, s
 use Rattle.ob_meaning.specs.Resolved.{IsResolved}
 use Rattle.ob_meaning.specs.Same.{SameState}
 use Rattle.ob_check.specs.CheckedText.{IsNumberedText, TellsTextMemoryApart, is_text_memory}
-use Rattle.ob_check.specs.declared.texts.TextFault.{TextFault}
+use Rattle.ob_check.specs.declared.checked_text.TextFault.{TextFault}
 use Rattle.ob_code_correct.proofs.Named.{names_simulate}
 use Rattle.ob_code_correct.specs.Carried.{BegunFit, Simulates}
 use Rattle.ob_code_correct.specs.Compiled.{Fits}
@@ -12,8 +12,8 @@ use Rattle.ob_interface.specs.Call.{ObjectCall, Reply}
 use Rattle.ob_meaning.specs.ByNameObject.{State}
 use Rattle.ob_object_run.specs.LegalOrder.{CallEnds}
 use Rattle.ob_object_run.specs.OrderFaults.{AnswersOtherwise, IsArranged, IsListFault}
-use Rattle.ob_object_run.specs.declared.order.OrderFault.{OrderFault}
-use Rattle.ob_object_run.specs.declared.order.OrderFault.TheVariants as Order
+use Rattle.ob_object_run.specs.declared.order_checker.OrderFault.{OrderFault}
+use Rattle.ob_object_run.specs.declared.order_checker.OrderFault.TheVariants as Order
 use Rattle.ob_object_calls.specs.MadeCalls.{IsFound, IsMadeThere, MadeCall}
 use Rattle.ob_object_calls.specs.Early.{IsOvertakenFound}
 use Rattle.ob_object_calls.specs.RecordCalls.{IsCallFound, IsFoundIn, IsMadeIn, IsOvertakenFoundIn, IsCallOvertaken}

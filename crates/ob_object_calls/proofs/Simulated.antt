@@ -3,8 +3,8 @@ use Rattle.std.proofs.Common.{List, take}
 use Rattle.ob_code_correct.specs.Carried.{BegunFit, LegalTo, Simulates}
 use Rattle.ob_interface.specs.Call.{ObjectCall, Reply}
 use Rattle.ob_object_run.specs.OrderFaults.{AnswersOtherwise}
-use Rattle.ob_object_run.specs.declared.order.OrderFault.{OrderFault}
-use Rattle.ob_object_run.specs.declared.order.OrderFault.TheVariants as Order
+use Rattle.ob_object_run.specs.declared.order_checker.OrderFault.{OrderFault}
+use Rattle.ob_object_run.specs.declared.order_checker.OrderFault.TheVariants as Order
 use Rattle.ob_object_calls.specs.VerifyFaults.{HasFaultFrom}
 use Rattle.wf_history.specs.Legal.{HasBegun, IsLegal, OneAtATime, none, more}
 use Rattle.wf_history.specs.declared.event.CallId.{CallId}

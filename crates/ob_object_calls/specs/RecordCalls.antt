@@ -3,7 +3,7 @@ use Rattle.std.specs.Prelude.{ℕ, List, Option, MatchOption}
 use Rattle.ob_code_correct.specs.Named.{CallMeans}
 use Rattle.ob_interface.specs.Call.{ObjectCall, Reply}
 use Rattle.ob_object_run.specs.LegalOrder.{CallEnds}
-use Rattle.ob_object_run.specs.declared.order.OrderFault.TheVariants as Order
+use Rattle.ob_object_run.specs.declared.order_checker.OrderFault.TheVariants as Order
 use Rattle.ob_object_calls.specs.Early.{IsOvertaken}
 use Rattle.ob_object_calls.specs.MadeCalls.{IsMadeThere, MadeCall}
 use Rattle.ob_object_calls.specs.Beginnings.{BeginsNamed, BeginsPlaced, TrapsPlaced}

@@ -1,15 +1,15 @@
 -- What each fault says of the bytes of a module and of a record.
 use Rattle.std.specs.Prelude.{◌≡◌, ◌≢◌, ◌⊎◌, ℕ, List, MatchResult, Option, Result}
 use Rattle.ob_check.specs.CheckedText.{IsNumberedText, IsTextFault}
-use Rattle.ob_check.specs.declared.texts.TextFault.{TextFault}
-use Rattle.ob_check.specs.declared.texts.TextFault.TheVariants as Text
+use Rattle.ob_check.specs.declared.checked_text.TextFault.{TextFault}
+use Rattle.ob_check.specs.declared.checked_text.TextFault.TheVariants as Text
 use Rattle.ob_code_correct.specs.Named.{CallMeans}
 use Rattle.ob_interface.specs.Call.{ObjectCall, Reply}
 use Rattle.ob_mean.specs.declared.openings.OpenFault.{OpenFault}
 use Rattle.ob_mean.specs.declared.openings.OpenFault.TheVariants as Open
 use Rattle.ob_object_run.specs.OrderFaults.{AnswersOtherwise, IsArranged, IsListFault}
-use Rattle.ob_object_run.specs.declared.order.OrderFault.{OrderFault}
-use Rattle.ob_object_run.specs.declared.order.OrderFault.TheVariants as Order
+use Rattle.ob_object_run.specs.declared.order_checker.OrderFault.{OrderFault}
+use Rattle.ob_object_run.specs.declared.order_checker.OrderFault.TheVariants as Order
 use Rattle.ob_object_calls.specs.Beginnings.{BeginsNamed, TrapsNamed}
 use Rattle.ob_object_calls.specs.declared.verifying.VerifyFault.{VerifyFault}
 use Rattle.ob_object_calls.specs.declared.verifying.VerifyFault.TheVariants as Faults

@@ -7,9 +7,9 @@ use Rattle.ob_code_correct.specs.Compiled as Compiled
 use Rattle.ob_layout.specs.Layout.{parts_of}
 use Rattle.ob_object_compile.specs.Asked as Asking
 use Rattle.ob_object_compile.specs.Compilation.{ObjectParts}
-use Rattle.ob_object_compile.specs.declared.asked.Asked.{Asked}
-use Rattle.ob_object_compile.specs.declared.asked.Beginning.{Beginning}
-use Rattle.ob_object_compile.specs.declared.asked.Beginning.TheVariants.{Body, Carried}
+use Rattle.ob_object_compile.specs.declared.asked_object.Asked.{Asked}
+use Rattle.ob_object_compile.specs.declared.asked_object.Beginning.{Beginning}
+use Rattle.ob_object_compile.specs.declared.asked_object.Beginning.TheVariants.{Body, Carried}
 use Rattle.ob_object_compile.specs.declared.object.Object.{Object}
 use Rattle.ob_object_compile.specs.declared.tree_object.TreeObject.{TreeObject}
 use Rattle.ob_store.specs.View.{state_of}

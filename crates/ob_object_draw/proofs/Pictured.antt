@@ -8,7 +8,7 @@ use Rattle.ob_object_draw.proofs.Seen.{memory_heard}
 use Rattle.ob_object_draw.specs.DrawHistoryFaults.{HasDrawFault, of_picture}
 use Rattle.ob_object_draw.specs.HistoryPictures.{AreDrawnMarked, HasPicture, HasRangeFault, begun_with}
 use Rattle.ob_object_draw.specs.Parts.{Shows}
-use Rattle.ob_object_draw.specs.declared.showing.Shown.{Shown}
+use Rattle.ob_object_draw.specs.declared.shown_history.Shown.{Shown}
 use Rattle.ob_object_calls.specs.Beginnings.{BeginsPlaced, TrapsPlaced}
 use Rattle.ob_picture_chart.specs.Faults.{IsRangeFault}
 use Rattle.ob_picture_chart.specs.declared.charts.CallRange.{CallRange}

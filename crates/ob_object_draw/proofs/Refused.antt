@@ -2,14 +2,14 @@
 use Rattle.std.proofs.Common.{◌≡◌, ◌≢◌, ap, ℕ, List, Option, Some, None, ◌⊎◌, inl, inr, option_map, refl}
 use Rattle.std.proofs.lemmas.Bool.{both_ways}
 use Rattle.ob_check.specs.CheckedText.{IsNumberedText, is_text_memory}
-use Rattle.ob_check.specs.declared.texts.TextFault.{TextFault}
-use Rattle.ob_check.specs.declared.texts.TextFault.TheVariants as Text
+use Rattle.ob_check.specs.declared.checked_text.TextFault.{TextFault}
+use Rattle.ob_check.specs.declared.checked_text.TextFault.TheVariants as Text
 use Rattle.ob_mean.specs.declared.openings.OpenFault.TheVariants as Open
 use Rattle.ob_object_draw.specs.Marks.{IsCallMarked, IsOf, of_verify}
 use Rattle.ob_object_draw.specs.RecordPictures.{HasNoPicture, IsRecordPicture, IsRefusal}
 use Rattle.ob_object_draw.specs.declared.record_pictures.DrawRecordFault.TheVariants as Faults
-use Rattle.ob_object_run.specs.declared.order.OrderFault.{OrderFault}
-use Rattle.ob_object_run.specs.declared.order.OrderFault.TheVariants as Order
+use Rattle.ob_object_run.specs.declared.order_checker.OrderFault.{OrderFault}
+use Rattle.ob_object_run.specs.declared.order_checker.OrderFault.TheVariants as Order
 use Rattle.ob_object_calls.specs.Verified.{IsVerified}
 use Rattle.ob_object_calls.specs.VerifyFaults as Verifies
 use Rattle.ob_object_calls.specs.VerifyFaults.{IsFaultOfRecord, IsVerifyFault}

@@ -10,11 +10,11 @@ use Rattle.ob_object_search.specs.declared.searching.SearchFault.{SearchFault}
 use Rattle.ob_object_search.specs.declared.searching.SearchFault.TheVariants as Search
 use Rattle.ob_object_draw.specs.DrawHistoryFaults.{HasDrawFault}
 use Rattle.ob_object_draw.specs.Parts.{IsFaultIn, IsNoX1, IsShown, Shows, effect_in, opening_in}
-use Rattle.ob_object_draw.specs.declared.faults.DrawHistoryFault.TheVariants as Faults
-use Rattle.ob_object_draw.specs.declared.showing.Shown.{Shown}
+use Rattle.ob_object_draw.specs.declared.picture_faults.DrawHistoryFault.TheVariants as Faults
+use Rattle.ob_object_draw.specs.declared.shown_history.Shown.{Shown}
 use Rattle.ob_object_search.proofs.Recorded.{fault_found}
 use Rattle.ob_object_search.specs.Heard.{IsHeard}
-use Rattle.ob_object_search.specs.declared.recording.Heard as Rust
+use Rattle.ob_object_search.specs.declared.order_recording.Heard as Rust
 use Rattle.ob_object_calls.specs.Beginnings.{BeginsPlaced, TrapsPlaced}
 use Rattle.ob_meaning.specs.ByPositionStore.{Activation}
 use Rattle.ob_store.specs.View.{state_of}

@@ -1,8 +1,8 @@
 -- What is drawn of a module's text and of a history of its program's object, as what is answered of both texts.
 use Rattle.std.proofs.Common.{◌≡◌, ◌∙◌, ℕ, List, Option, ap, arith, inl, inr, refl, subst, take}
 use Rattle.ob_check.specs.CheckedText.{IsNumberedText, TellsTextMemoryApart}
-use Rattle.ob_check.specs.declared.texts.TextFault.{TextFault}
-use Rattle.ob_check.specs.declared.texts.TextFault.TheVariants as Text
+use Rattle.ob_check.specs.declared.checked_text.TextFault.{TextFault}
+use Rattle.ob_check.specs.declared.checked_text.TextFault.TheVariants as Text
 use Rattle.ob_code_correct.specs.Named.{CallMeans}
 use Rattle.ob_meaning.specs.Resolved.{IsResolved}
 use Rattle.ob_mean.specs.declared.openings.OpenFault.TheVariants as Open
@@ -16,10 +16,10 @@ use Rattle.ob_object_draw.proofs.Alone.{same_begun, same_count}
 use Rattle.ob_object_draw.proofs.Crossed.{part_placed, picture_named, range_named}
 use Rattle.ob_object_draw.specs.DrawHistoryFaults.{HasDrawFault, IsDrawHistoryFault, RulesOut}
 use Rattle.ob_object_draw.specs.HistoryPictures.{HasNoPicture, HasPicture, IsHistoryPicture, begun_with}
-use Rattle.ob_object_draw.specs.declared.faults.DrawHistoryFault.{DrawHistoryFault}
-use Rattle.ob_object_draw.specs.declared.faults.DrawHistoryFault.TheVariants as Faults
+use Rattle.ob_object_draw.specs.declared.picture_faults.DrawHistoryFault.{DrawHistoryFault}
+use Rattle.ob_object_draw.specs.declared.picture_faults.DrawHistoryFault.TheVariants as Faults
 use Rattle.ob_object_search.proofs.Recordings as Recordings
-use Rattle.ob_object_search.specs.declared.recording.RecordingFault.TheVariants as Recording
+use Rattle.ob_object_search.specs.declared.order_recording.RecordingFault.TheVariants as Recording
 use Rattle.ob_object_calls.proofs.Beginnings.{beginning_placed, no_trap}
 use Rattle.ob_object_calls.proofs.Openings.{module_resolved}
 use Rattle.ob_object_calls.specs.Beginnings.{BeginsNamed, BeginsPlaced, TrapsPlaced}

@@ -1,6 +1,6 @@
 -- Why there is no picture of a history, from the bytes of a module and of the history.
 use Rattle.std.specs.Prelude.{◌≢◌, ℕ, List, Option}
-use Rattle.ob_check.specs.declared.texts.TextFault.{TextFault}
+use Rattle.ob_check.specs.declared.checked_text.TextFault.{TextFault}
 use Rattle.ob_code_correct.specs.Named.{CallMeans}
 use Rattle.ob_interface.specs.Call.{ObjectCall, Reply}
 use Rattle.ob_object_search.specs.SearchFaults as Searches
@@ -8,8 +8,8 @@ use Rattle.ob_object_search.specs.SearchFaults.{HasSearchFault, IsSearchFault, I
 use Rattle.ob_object_search.specs.declared.searching.SearchFault.TheVariants as Search
 use Rattle.ob_object_draw.specs.HistoryPictures.{HasRangeFault}
 use Rattle.ob_object_draw.specs.Parts.{IsNoX1}
-use Rattle.ob_object_draw.specs.declared.faults.DrawHistoryFault.{DrawHistoryFault}
-use Rattle.ob_object_draw.specs.declared.faults.DrawHistoryFault.TheVariants as Faults
+use Rattle.ob_object_draw.specs.declared.picture_faults.DrawHistoryFault.{DrawHistoryFault}
+use Rattle.ob_object_draw.specs.declared.picture_faults.DrawHistoryFault.TheVariants as Faults
 use Rattle.ob_object_search.specs.RecordingFaults.{HasManyProcesses, IsManyProcesses}
 use Rattle.ob_object_calls.specs.Beginnings.{BeginsNamed}
 use Rattle.ob_meaning.specs.ByPositionStore.{Activation}

@@ -3,8 +3,8 @@ use Rattle.std.specs.Prelude.{◌≡◌, List, ℕ, Option, Some, None, option_m
 use Rattle.ob_object_draw.specs.declared.record_pictures.DrawRecordFault.{DrawRecordFault}
 use Rattle.ob_object_draw.specs.declared.record_pictures.DrawRecordFault.TheVariants as Faults
 use Rattle.ob_object_draw.specs.declared.marking.Marked.{Marked}
-use Rattle.ob_object_run.specs.declared.order.OrderFault.{OrderFault}
-use Rattle.ob_object_run.specs.declared.order.OrderFault.TheVariants as Order
+use Rattle.ob_object_run.specs.declared.order_checker.OrderFault.{OrderFault}
+use Rattle.ob_object_run.specs.declared.order_checker.OrderFault.TheVariants as Order
 use Rattle.ob_object_calls.specs.Verified.{IsVerified}
 use Rattle.ob_object_calls.specs.VerifyFaults.{IsFaultOfRecord}
 use Rattle.ob_object_calls.specs.declared.verifying.VerifyFault.{VerifyFault}

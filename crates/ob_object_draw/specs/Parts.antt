@@ -10,7 +10,7 @@ use Rattle.ob_object_search.specs.Searched.{HasBeginning, budget_of}
 use Rattle.ob_object_search.specs.declared.instance.ModuleObject.{ModuleObject}
 use Rattle.ob_object_search.specs.declared.searching.SearchFault.{SearchFault}
 use Rattle.ob_object_search.specs.declared.searching.SearchFault.TheVariants as Search
-use Rattle.ob_object_draw.specs.declared.showing.Shown.{Shown}
+use Rattle.ob_object_draw.specs.declared.shown_history.Shown.{Shown}
 use Rattle.ob_object_calls.specs.Beginnings.{BeginsPlaced}
 use Rattle.ob_meaning.specs.ByPositionStore.{Activation}
 use Rattle.ob_typing.specs.Program.{Program}

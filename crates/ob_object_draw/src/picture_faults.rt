@@ -23,7 +23,7 @@ pub enum DrawHistoryFault {
 
 impl From<SearchFault> for DrawHistoryFault {
     ghost use Rattle.std.specs.Prelude.{◌≡◌};
-    ghost use Rattle.ob_object_draw.specs.declared.faults.DrawHistoryFault.TheVariants as Faults;
+    ghost use Rattle.ob_object_draw.specs.declared.picture_faults.DrawHistoryFault.TheVariants as Faults;
 
     ghost from_gives = { λ e f. f ≡ Faults.Search e };
 

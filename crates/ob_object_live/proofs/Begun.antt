@@ -6,7 +6,7 @@ use Rattle.std.proofs.lemmas.List.Elements.{All-nil}
 use Rattle.ob_checked.specs.Exports.{signatures}
 use Rattle.ob_interface.specs.Export.{CallFits}
 use Rattle.ob_object_live.specs.Living.{Ground, IsAt, callers, events_behind, ground_of, order_behind, record_at, replies_at, state_at, title_of, told_text}
-use Rattle.ob_object_live.specs.declared.parts.Live.{Live}
+use Rattle.ob_object_live.specs.declared.live_parts.Live.{Live}
 use Rattle.ob_store.specs.View.{state_of}
 use Rattle.ob_text_record.specs.Record.{carried_from}
 use Rattle.ob_meaning.specs.ByPositionStore.{Activation}

@@ -9,7 +9,7 @@ use Rattle.ob_checked.specs.Exports.{signatures}
 use Rattle.ob_interface.specs.Call.{ObjectCall, Reply}
 use Rattle.ob_interface.specs.Export.{CallFits, Signature}
 use Rattle.ob_object_live.specs.Living.{Ground, IsAt, IsMore, OneMade, applied_text, behind, call_text, callers, count_of, end_text, events_alone, events_behind, ground_of, id_behind, lines_at, order_behind, replies_at, state_at}
-use Rattle.ob_object_live.specs.declared.parts.Live.{Live}
+use Rattle.ob_object_live.specs.declared.live_parts.Live.{Live}
 use Rattle.ob_object_live.proofs.CallsBehind.{behind_more, callers_more, count_here, events_more, lines_more, order_more, reply_behind, state_more}
 use Rattle.ob_meaning.specs.ByPositionObject as Effects
 use Rattle.ob_meaning.specs.ByPositionObject.{effect}

@@ -10,7 +10,7 @@ use Rattle.ob_interface.specs.Call.{ObjectCall, Reply}
 use Rattle.ob_interface.specs.Export.{CallFits, Signature}
 use Rattle.ob_mean.specs.Sequences as Positions
 use Rattle.ob_object_live.specs.Living.{Ground, IsAt, asked, callers, end_text, events_behind, id_behind, ground_of, lines_at, lines_behind, record_at, replies_at, state_after, state_at}
-use Rattle.ob_object_live.specs.declared.parts.Live.{Live}
+use Rattle.ob_object_live.specs.declared.live_parts.Live.{Live}
 use Rattle.ob_object_live.specs.Talks.{AllFit, EndsOn, IsTalk, TalksOn, ends, made, refused}
 use Rattle.ob_meaning.specs.ByNameObject as Named
 use Rattle.ob_object_compile.proofs.Openings.{module_resolved}

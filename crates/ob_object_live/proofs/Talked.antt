@@ -5,9 +5,9 @@ use Rattle.std.proofs.lemmas.Bool.Decides.{nat_tests}
 use Rattle.std.proofs.lemmas.Result.{on_ok_weaker}
 use Rattle.ob_object_live.specs.Living.{Ground, IsAnswered, IsAt, ground_of}
 use Rattle.ob_object_live.specs.Talks.{TalksOn, TellsLine, ends, fault_text, made, record_told, refused}
-use Rattle.ob_object_live.specs.declared.parts.Live.{Live}
-use Rattle.ob_object_live.specs.declared.parts.Told.{Told}
-use Rattle.ob_object_live.specs.declared.parts.Told.TheVariants as Tolds
+use Rattle.ob_object_live.specs.declared.live_parts.Live.{Live}
+use Rattle.ob_object_live.specs.declared.live_parts.Told.{Told}
+use Rattle.ob_object_live.specs.declared.live_parts.Told.TheVariants as Tolds
 use Rattle.ob_text_scripts.specs.declared.script.ScriptFault.{ScriptFault}
 use Rattle.ob_text_words.specs.ScriptCalls.{ScriptCall}
 

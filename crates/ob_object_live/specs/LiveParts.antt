@@ -1,7 +1,7 @@
 -- An object before any call.
 use Rattle.std.specs.Prelude.{◌≡◌, []}
 use Rattle.ob_object_live.specs.Living.{Ground, IsAt, ground_of}
-use Rattle.ob_object_live.specs.declared.parts.Live.{Live}
+use Rattle.ob_object_live.specs.declared.live_parts.Live.{Live}
 use Rattle.ob_object_compile.specs.Asked.{Asked}
 use Rattle.ob_object_compile.specs.Compilation.{IsCompilation, ObjectParts}
 

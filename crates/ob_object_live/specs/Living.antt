@@ -6,10 +6,10 @@ use Rattle.ob_interface.specs.Call.{ObjectCall, Reply}
 use Rattle.ob_interface.specs.Export.{CallFits, Signature}
 use Rattle.ob_mean.specs.Sequences.{replies_to}
 use Rattle.ob_checked.specs.CheckedModule.{program_in}
-use Rattle.ob_object_live.specs.declared.parts.Ground as Rust
-use Rattle.ob_object_live.specs.declared.parts.Live.{Live}
-use Rattle.ob_object_live.specs.declared.parts.Told.{Told}
-use Rattle.ob_object_live.specs.declared.parts.Told.TheVariants.{Fault, Lines}
+use Rattle.ob_object_live.specs.declared.live_parts.Ground as Rust
+use Rattle.ob_object_live.specs.declared.live_parts.Live.{Live}
+use Rattle.ob_object_live.specs.declared.live_parts.Told.{Told}
+use Rattle.ob_object_live.specs.declared.live_parts.Told.TheVariants.{Fault, Lines}
 use Rattle.ob_text_record.specs.Record.{Record, carried_from}
 use Rattle.ob_meaning.specs.ByPositionObject.{effect}
 use Rattle.ob_meaning.specs.ByPositionStore.{Activation}

@@ -3,7 +3,7 @@ use Rattle.std.specs.Prelude.{◌≡◌, ◌≢◌, ◌⊎◌, ℕ, suc, true, L
 use Rattle.ob_checked.specs.Exports.{signatures}
 use Rattle.ob_interface.specs.Export.{CallFits, Signature}
 use Rattle.ob_object_live.specs.Living.{Ground, IsAt, IsMore, lines_at, record_at, remarked}
-use Rattle.ob_object_live.specs.declared.parts.Live.{Live}
+use Rattle.ob_object_live.specs.declared.live_parts.Live.{Live}
 use Rattle.ob_text_record.specs.RecordText.{record_text}
 use Rattle.ob_text_scripts.specs.Script.{IsScript, IsScriptFault, SaysNone}
 use Rattle.ob_text_scripts.specs.declared.script.ScriptFault.{ScriptFault}

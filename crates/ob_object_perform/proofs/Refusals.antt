@@ -18,8 +18,8 @@ use Rattle.ob_object_run.specs.Recorded.{IsRecorded}
 use Rattle.ob_meaning.specs.ByPositionStore.{Activation}
 use Rattle.ob_text_words.specs.Schedule.{IsScheduleFault}
 use Rattle.ob_text_words.specs.declared.item.Item.{Item}
-use Rattle.ob_text_words.specs.declared.schedule.ScheduleFault.{ScheduleFault}
-use Rattle.ob_text_words.specs.declared.schedule.ScheduleFault.TheVariants as Schedule
+use Rattle.ob_text_words.specs.declared.schedule_texts.ScheduleFault.{ScheduleFault}
+use Rattle.ob_text_words.specs.declared.schedule_texts.ScheduleFault.TheVariants as Schedule
 use Rattle.ob_text_scripts.specs.Script.{IsScript, IsScriptFault}
 use Rattle.ob_text_scripts.specs.declared.script.ScriptFault.{ScriptFault}
 use Rattle.ob_text_scripts.specs.declared.script.ScriptFault.TheVariants as Script

@@ -4,7 +4,7 @@ use Rattle.ob_code_correct.specs.CodeMeaning.{code_meaning}
 use Rattle.ob_code_machine.specs.Body.{Run}
 use Rattle.ob_interface.specs.Call.{ObjectCall}
 use Rattle.ob_object_perform.specs.Numbers.{numbers_of}
-use Rattle.ob_object_perform.specs.declared.numbers.Numbers.{Numbers}
+use Rattle.ob_object_perform.specs.declared.object_numbers.Numbers.{Numbers}
 use Rattle.ob_object_compile.specs.Compilation.{ObjectParts}
 use Rattle.ob_text_record.specs.Record.{Record}
 use Rattle.ob_object_run.specs.KeepsBound.{counted_behind}

@@ -2,7 +2,7 @@
 use Rattle.std.specs.Prelude.{◌≡◌, ℕ, ◌+◌, ◌*◌, List, ◌++◌, codes, decimal, length}
 use Rattle.ob_code_engine.specs.Total.{body_limit}
 use Rattle.ob_code_correct.specs.CodeMeaning.{code_meaning}
-use Rattle.ob_object_perform.specs.declared.numbers.Numbers.{Numbers}
+use Rattle.ob_object_perform.specs.declared.object_numbers.Numbers.{Numbers}
 use Rattle.ob_object_compile.specs.Asked.{by_body}
 use Rattle.ob_object_compile.specs.Compilation.{IsCompilation, ObjectParts}
 use Rattle.wf_table.specs.Bound.{bound}

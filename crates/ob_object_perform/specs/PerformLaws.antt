@@ -4,8 +4,8 @@ use Rattle.ob_code_correct.specs.CodeMeaning.{code_meaning}
 use Rattle.ob_code_correct.specs.Compiled.{body_limit}
 use Rattle.ob_meaning.specs.ByNameObject.{replies_to}
 use Rattle.ob_object_run.specs.OrderFaults.{IsOrderFault}
-use Rattle.ob_object_run.specs.declared.order.OrderFault.{OrderFault}
-use Rattle.ob_object_run.specs.declared.order.OrderFault.TheVariants.{NoMemory}
+use Rattle.ob_object_run.specs.declared.order_checker.OrderFault.{OrderFault}
+use Rattle.ob_object_run.specs.declared.order_checker.OrderFault.TheVariants.{NoMemory}
 use Rattle.ob_object_perform.specs.Performance.{IsPerformance}
 use Rattle.ob_object_perform.specs.Texts.{Texts}
 use Rattle.ob_text_record.specs.Record.{Record}

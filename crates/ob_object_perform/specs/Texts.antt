@@ -2,7 +2,7 @@
 use Rattle.std.specs.Prelude.{ℕ, List}
 use Rattle.ob_object_compile.specs.Asked.{Asked}
 use Rattle.ob_object_compile.specs.View.{asked_of}
-use Rattle.ob_object_perform.specs.declared.texts.Texts as Rust
+use Rattle.ob_object_perform.specs.declared.run_texts.Texts as Rust
 
 -- what object is asked for, the scripts of its calls, and the schedule
 pub record Texts : Type 0 where

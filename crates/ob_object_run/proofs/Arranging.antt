@@ -3,7 +3,7 @@ use Rattle.std.proofs.Common.{◌≡◌, refl, sym, ap, ◌∙◌, subst, ℕ, �
 use Rattle.std.proofs.lemmas.Option.{same_Some, slice_get-map}
 use Rattle.std.specs.Prelude.{slice_get, Contains}
 use Rattle.wf_history.specs.declared.event.CallId.{CallId}
-use Rattle.ob_object_run.specs.declared.places.Placed.{Placed}
+use Rattle.ob_object_run.specs.declared.event_places.Placed.{Placed}
 use Rattle.wf_history.specs.History.{Event, Begin, Applied, End, IsHistory, Before, before}
 use Rattle.ob_object_run.specs.OrderFaults.{IsFirst, IsNowhere, EndsUnlisted, IsTooEarly}
 use Rattle.ob_object_run.specs.Places.{ArePlaced, BeginsTooLate}

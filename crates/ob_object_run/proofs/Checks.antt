@@ -6,8 +6,8 @@ use Rattle.ob_typing.specs.Program.{Program}
 use Rattle.ob_meaning.specs.ByPositionStore.{Activation}
 use Rattle.ob_object_run.specs.LegalOrder.{IsLegalOrder}
 use Rattle.ob_object_run.specs.OrderFaults.{IsOrderFault}
-use Rattle.ob_object_run.specs.declared.order.OrderFault.{OrderFault}
-use Rattle.ob_object_run.specs.declared.order.OrderFault.TheVariants as Faults
+use Rattle.ob_object_run.specs.declared.order_checker.OrderFault.{OrderFault}
+use Rattle.ob_object_run.specs.declared.order_checker.OrderFault.TheVariants as Faults
 use Rattle.ob_object_run.proofs.Faults.{legal_fault}
 use Rattle.wf_history.specs.declared.event.CallId.{CallId}
 use Rattle.wf_history.specs.History.{Event, IsHistory}

@@ -4,7 +4,7 @@ use Rattle.std.proofs.lemmas.Bool.{cases_lt}
 use Rattle.std.proofs.lemmas.Option.{same_Some, slice_get_within}
 use Rattle.std.specs.Prelude.{slice_get, MatchOption}
 use Rattle.wf_history.specs.declared.event.CallId.{CallId}
-use Rattle.ob_object_run.specs.declared.places.Placed.{Placed}
+use Rattle.ob_object_run.specs.declared.event_places.Placed.{Placed}
 use Rattle.ob_object_run.specs.OrderFaults.{IsFirst, IsNowhere}
 use Rattle.ob_object_run.specs.Places.{BeginsTooLate}
 use Rattle.wf_history.proofs.Positions.{one_item}

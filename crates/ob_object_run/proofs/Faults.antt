@@ -10,8 +10,8 @@ use Rattle.ob_meaning.specs.ByPositionStore.{Activation}
 use Rattle.ob_meaning.specs.ByPositionObject.{Effect}
 use Rattle.ob_interface.specs.Call.{ObjectCall, Reply}
 use Rattle.wf_history.specs.declared.event.CallId.{CallId}
-use Rattle.ob_object_run.specs.declared.order.OrderFault.{OrderFault}
-use Rattle.ob_object_run.specs.declared.order.OrderFault.TheVariants as F
+use Rattle.ob_object_run.specs.declared.order_checker.OrderFault.{OrderFault}
+use Rattle.ob_object_run.specs.declared.order_checker.OrderFault.TheVariants as F
 use Rattle.wf_history.specs.History.{Event, Begin, Applied, End, IsHistory}
 use Rattle.wf_history.specs.Legal.{OneAtATime, HasBegun, RepliesAgree, IsLegal, more}
 use Rattle.ob_object_run.specs.LegalOrder.{CallEnds, IsLegalOrder}

@@ -5,8 +5,8 @@ use Rattle.std.proofs.lemmas.List.Elements.{Contains-push, Contains-push_cases, 
 use Rattle.std.proofs.lemmas.Option.{slice_get_within, slice_get-map, slice_get_read, MatchOption-at_none, MatchOption-at_some}
 use Rattle.std.specs.Prelude.{slice_get, IsTrue, Contains, ◌&&◌, nat_eq}
 use Rattle.wf_history.specs.declared.event.CallId.{CallId}
-use Rattle.ob_object_run.specs.declared.places.Placed.{Placed}
-use Rattle.ob_object_run.specs.declared.places.Places.{Places}
+use Rattle.ob_object_run.specs.declared.event_places.Placed.{Placed}
+use Rattle.ob_object_run.specs.declared.event_places.Places.{Places}
 use Rattle.ob_object_run.specs.PlacedCalls.{place_in, placed_all, placed_at}
 use Rattle.wf_history.specs.History.{Event, Begin, Applied, End}
 use Rattle.wf_history.specs.Legal.{HasBegun}

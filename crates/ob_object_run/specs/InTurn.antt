@@ -3,8 +3,8 @@ use Rattle.std.specs.Prelude.{◌≡◌, ℕ, List, Result, IfErr}
 use Rattle.ob_interface.specs.Call.{ObjectCall, Reply}
 use Rattle.ob_object_run.specs.LegalOrder.{IsLegalOrder}
 use Rattle.ob_object_run.specs.OrderFaults.{AllLeadTo, IsOrderFault, IsReplayFault, TellsFault}
-use Rattle.ob_object_run.specs.declared.order.OrderFault.{OrderFault}
-use Rattle.ob_object_run.specs.declared.order.OrderFault.TheVariants as Faults
+use Rattle.ob_object_run.specs.declared.order_checker.OrderFault.{OrderFault}
+use Rattle.ob_object_run.specs.declared.order_checker.OrderFault.TheVariants as Faults
 use Rattle.ob_meaning.specs.ByPositionObject.{effect}
 use Rattle.ob_meaning.specs.ByPositionStore.{Activation}
 use Rattle.ob_typing.specs.Program.{Program}

@@ -11,8 +11,8 @@ use Rattle.ob_code_scheme.specs.Layout.{encoded}
 use Rattle.ob_code_scheme.specs.Types.{IsStateOf}
 use Rattle.ob_code_scheme.specs.WellFormed.{IsWellFormed}
 use Rattle.ob_object_run.specs.OrderFaults.{IsOrderFault}
-use Rattle.ob_object_run.specs.declared.order.OrderFault.{OrderFault}
-use Rattle.ob_object_run.specs.declared.order.OrderFault.TheVariants.{NoMemory}
+use Rattle.ob_object_run.specs.declared.order_checker.OrderFault.{OrderFault}
+use Rattle.ob_object_run.specs.declared.order_checker.OrderFault.TheVariants.{NoMemory}
 use Rattle.ob_text_record.specs.Record.{Record}
 use Rattle.ob_object_run.specs.KeepsBound.{CallsKeepBound, KeepsBound, KeepsLimit}
 use Rattle.ob_object_run.specs.OwnCalls.{HasReplies, calls_by}

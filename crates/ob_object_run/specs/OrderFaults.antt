@@ -7,9 +7,9 @@ use Rattle.ob_interface.specs.Call.{ObjectCall, Reply}
 use Rattle.ob_typing.specs.Program.{Program}
 use Rattle.ob_meaning.specs.ByPositionStore.{Activation}
 use Rattle.wf_history.specs.declared.event.CallId.{CallId}
-use Rattle.ob_object_run.specs.declared.order.OrderFault.{OrderFault}
-use Rattle.ob_object_run.specs.declared.order.OrderFault.TheVariants as Faults
-use Rattle.ob_object_run.specs.declared.places.Placed.{Placed}
+use Rattle.ob_object_run.specs.declared.order_checker.OrderFault.{OrderFault}
+use Rattle.ob_object_run.specs.declared.order_checker.OrderFault.TheVariants as Faults
+use Rattle.ob_object_run.specs.declared.event_places.Placed.{Placed}
 use Rattle.wf_history.specs.History.{Event, Begin, Applied, End, Before}
 use Rattle.wf_history.specs.Legal.{HasBegun, OneAtATime, RepliesAgree}
 use Rattle.ob_object_run.specs.LegalOrder.{CallEnds}

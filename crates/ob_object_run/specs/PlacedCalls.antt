@@ -1,8 +1,8 @@
 -- The calls of a list with their places.
 use Rattle.std.specs.Prelude.{ℕ, List, map, Option, None, Some}
 use Rattle.wf_history.specs.declared.event.CallId.{CallId}
-use Rattle.ob_object_run.specs.declared.places.Placed.{Placed}
-use Rattle.ob_object_run.specs.declared.places.Places.{Places}
+use Rattle.ob_object_run.specs.declared.event_places.Placed.{Placed}
+use Rattle.ob_object_run.specs.declared.event_places.Places.{Places}
 use Rattle.ob_object_run.specs.Noted.{noted_in}
 
 -- the place, or 0 where there is none

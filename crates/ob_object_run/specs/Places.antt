@@ -1,7 +1,7 @@
 -- Where calls begin and end among the events of a history.
 use Rattle.std.specs.Prelude.{◌≡◌, ℕ, ◌<◌, Bool, ◌&&◌, nat_eq, if◌then◌else◌, Option, Some, List, slice_get, MatchOption}
 use Rattle.wf_history.specs.declared.event.CallId.{CallId}
-use Rattle.ob_object_run.specs.declared.places.Placed.{Placed}
+use Rattle.ob_object_run.specs.declared.event_places.Placed.{Placed}
 use Rattle.wf_history.specs.History.{Event, Begin, Applied, End}
 
 -- the fact holds at the place, or at none where there is no place

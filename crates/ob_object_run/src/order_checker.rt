@@ -7,8 +7,8 @@ ghost use Rattle.ob_store.specs.View.{state_of};
 ghost use Rattle.wf_history.specs.declared.event.CallId.{CallId};
 ghost use Rattle.wf_history.specs.History.{Begin, End, IsHistory};
 ghost use Rattle.wf_history.specs.View.{event_of, seen_call, seen_reply};
-ghost use Rattle.ob_object_run.specs.declared.order.OrderFault.{OrderFault};
-ghost use Rattle.ob_object_run.specs.declared.order.OrderFault.TheVariants as Faults;
+ghost use Rattle.ob_object_run.specs.declared.order_checker.OrderFault.{OrderFault};
+ghost use Rattle.ob_object_run.specs.declared.order_checker.OrderFault.TheVariants as Faults;
 ghost use Rattle.ob_object_run.specs.LegalOrder.{IsLegalOrder};
 ghost use Rattle.ob_object_run.specs.OrderFaults.{IsNowhere, IsUnknown, IsListFault, IsEndFound, IsUnlistedFound, IsTooLateFound, IsArranged, IsOrderFault, TellsFault};
 ghost use Rattle.ob_object_run.specs.InTurn.{AcceptsLegal, FailsBy, MakesAll, MakesLegal, StopsAt, TakesBegun, TellsFaults};
@@ -50,7 +50,7 @@ pub enum OrderFault {
 
 impl From<NoMemory> for OrderFault {
     ghost use Rattle.std.specs.Prelude.{◌≡◌};
-    ghost use Rattle.ob_object_run.specs.declared.order.OrderFault.TheVariants as Faults;
+    ghost use Rattle.ob_object_run.specs.declared.order_checker.OrderFault.TheVariants as Faults;
 
     ghost from_gives = { λ _ e. e ≡ Faults.NoMemory };
 
@@ -61,7 +61,7 @@ impl From<NoMemory> for OrderFault {
 
 impl From<AllocError> for OrderFault {
     ghost use Rattle.std.specs.Prelude.{◌≡◌};
-    ghost use Rattle.ob_object_run.specs.declared.order.OrderFault.TheVariants as Faults;
+    ghost use Rattle.ob_object_run.specs.declared.order_checker.OrderFault.TheVariants as Faults;
 
     ghost from_gives = { λ _ e. e ≡ Faults.NoMemory };
 
@@ -72,7 +72,7 @@ impl From<AllocError> for OrderFault {
 
 impl<T: Drop> From<AllocFailed<T>> for OrderFault {
     ghost use Rattle.std.specs.Prelude.{◌≡◌};
-    ghost use Rattle.ob_object_run.specs.declared.order.OrderFault.TheVariants as Faults;
+    ghost use Rattle.ob_object_run.specs.declared.order_checker.OrderFault.TheVariants as Faults;
 
     ghost from_gives = { λ _ e. e ≡ Faults.NoMemory };
 

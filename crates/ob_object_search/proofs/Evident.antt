@@ -15,7 +15,7 @@ use Rattle.ob_object_search.proofs.Crossing.{IsPlaced}
 use Rattle.ob_object_search.proofs.Fitting.{calls_fit, front_fits, history_opened}
 use Rattle.ob_object_search.specs.Searched.{budget_of}
 use Rattle.ob_object_search.specs.EndEvidence.{HasEvidence, IsEvidence, IsNoEnd, NeverEnds, Shows}
-use Rattle.ob_object_search.specs.declared.showing.Evidence.{Evidence}
+use Rattle.ob_object_search.specs.declared.witness.Evidence.{Evidence}
 use Rattle.ob_object_calls.proofs.Beginnings.{beginning_named}
 use Rattle.ob_object_calls.proofs.Openings.{module_resolved}
 use Rattle.ob_object_calls.proofs.Simulated.{legal_there}

@@ -18,8 +18,8 @@ use Rattle.ob_object_search.specs.declared.searching.SearchFault.{SearchFault}
 use Rattle.ob_object_search.specs.declared.searching.SearchFault.TheVariants as SearchFaults
 use Rattle.ob_object_search.specs.RecordingFaults.{HasManyProcesses, HasRecordingFault, IsRecordingFault, too_many}
 use Rattle.ob_object_search.specs.SearchRecords.{IsHistoryRecord, IsRecordFound, IsSame}
-use Rattle.ob_object_search.specs.declared.recording.RecordingFault.{RecordingFault}
-use Rattle.ob_object_search.specs.declared.recording.RecordingFault.TheVariants as Faults
+use Rattle.ob_object_search.specs.declared.order_recording.RecordingFault.{RecordingFault}
+use Rattle.ob_object_search.specs.declared.order_recording.RecordingFault.TheVariants as Faults
 use Rattle.ob_mean.specs.declared.openings.OpenFault.{OpenFault}
 use Rattle.ob_mean.specs.declared.openings.OpenFault.TheVariants as Open
 use Rattle.ob_text_reading.specs.declared.record_reading.RecordFault.{RecordFault}

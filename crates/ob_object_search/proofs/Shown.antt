@@ -12,9 +12,9 @@ use Rattle.ob_object_search.proofs.Renamed.{has_named}
 use Rattle.ob_object_search.specs.Found.{HasOrderHere, IsNeededHere}
 use Rattle.ob_object_search.proofs.Fronts.{below_front, named_front}
 use Rattle.ob_object_search.specs.EndEvidence.{CouldEnd, EndsNowhere, HasEvidence, IsNoEnd, Shows}
-use Rattle.ob_object_search.specs.declared.showing.Evidence.{Evidence}
+use Rattle.ob_object_search.specs.declared.witness.Evidence.{Evidence}
 use Rattle.ob_object_search.specs.Heard.{IsHeard}
-use Rattle.ob_object_search.specs.declared.recording.Heard as Heards
+use Rattle.ob_object_search.specs.declared.order_recording.Heard as Heards
 use Rattle.ob_object_calls.specs.Beginnings.{BeginsPlaced}
 use Rattle.ob_meaning.specs.ByPositionStore.{Activation}
 use Rattle.ob_store.specs.View.{state_of}

@@ -4,7 +4,7 @@ use Rattle.ob_code_correct.specs.Named.{CallMeans}
 use Rattle.ob_interface.specs.Call.{ObjectCall, Reply}
 use Rattle.ob_interface.specs.View.{reply_of}
 use Rattle.ob_object_search.specs.Searched.{HasBeginning, budget_of}
-use Rattle.ob_object_search.specs.declared.showing.Evidence.{Evidence}
+use Rattle.ob_object_search.specs.declared.witness.Evidence.{Evidence}
 use Rattle.ob_object_calls.specs.Beginnings.{BeginsNamed}
 use Rattle.ob_meaning.specs.ByPositionStore.{Activation}
 use Rattle.ob_text_reading.specs.HistoryLines.{HistoryTold, IsHistoryText}

@@ -1,7 +1,7 @@
 -- What is heard of a history before an order is looked for.
 use Rattle.std.specs.Prelude.{◌≡◌, ℕ, List, Option, length}
 use Rattle.ob_object_search.specs.Searched.{budget_of}
-use Rattle.ob_object_search.specs.declared.recording.Heard as Rust
+use Rattle.ob_object_search.specs.declared.order_recording.Heard as Rust
 use Rattle.ob_object_calls.specs.Beginnings.{BeginsPlaced}
 use Rattle.ob_store.specs.View.{state_of}
 use Rattle.ob_text_reading.specs.HistoryLines.{HistoryTold, IsHistoryText}

@@ -1,6 +1,6 @@
 -- Why there is no record of a history with a legal order.
 use Rattle.std.specs.Prelude.{◌<◌, ℕ, List, Option}
-use Rattle.ob_check.specs.declared.texts.TextFault.{TextFault}
+use Rattle.ob_check.specs.declared.checked_text.TextFault.{TextFault}
 use Rattle.ob_interface.specs.Call.{ObjectCall, Reply}
 use Rattle.ob_interface.specs.Processes.{most_processes}
 use Rattle.ob_object_search.specs.Searched.{HasBeginning}
@@ -8,8 +8,8 @@ use Rattle.ob_object_search.specs.SearchFaults as Search
 use Rattle.ob_object_search.specs.SearchFaults.{HasSearchFault, IsSearchFault, IsUndecided, of_text}
 use Rattle.ob_object_search.specs.declared.searching.SearchFault.TheVariants as SearchFaults
 use Rattle.wf_order.specs.Beginnings.{process_count}
-use Rattle.ob_object_search.specs.declared.recording.RecordingFault.{RecordingFault}
-use Rattle.ob_object_search.specs.declared.recording.RecordingFault.TheVariants as Faults
+use Rattle.ob_object_search.specs.declared.order_recording.RecordingFault.{RecordingFault}
+use Rattle.ob_object_search.specs.declared.order_recording.RecordingFault.TheVariants as Faults
 use Rattle.ob_object_calls.specs.Beginnings.{BeginsNamed}
 use Rattle.ob_meaning.specs.ByPositionStore.{Activation}
 use Rattle.ob_typing.specs.ModuleText.{IsModule}

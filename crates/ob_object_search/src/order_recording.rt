@@ -48,7 +48,7 @@ pub enum RecordingFault {
 
 impl From<SearchFault> for RecordingFault {
     ghost use Rattle.std.specs.Prelude.{◌≡◌};
-    ghost use Rattle.ob_object_search.specs.declared.recording.RecordingFault.TheVariants as Faults;
+    ghost use Rattle.ob_object_search.specs.declared.order_recording.RecordingFault.TheVariants as Faults;
 
     ghost from_gives = { λ e f. f ≡ Faults.Search e };
 

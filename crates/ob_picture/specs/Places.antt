@@ -1,6 +1,6 @@
 -- Where things stand in a picture, in pixels from the left and from the top. The columns of a run stand in bands, one below the other.
 use Rattle.std.specs.Prelude.{ℕ, ◌+◌, ◌-◌, ◌*◌, ◌/◌, ◌%◌, ◌==◌, ◌&&◌, cond, length, nat_le, nat_lt, position, unwrap_or, Bool, false, List, Option, None, Some, min, max}
-use Rattle.ob_picture.specs.declared.places.Frame.{Frame}
+use Rattle.ob_picture.specs.declared.pixels.Frame.{Frame}
 use Rattle.ob_picture_chart.specs.Same.{is_same}
 use Rattle.ob_picture_chart.specs.declared.svg.Point.{Point}
 use Rattle.wf_history.specs.declared.event.CallId.{CallId}

@@ -5,7 +5,7 @@ use Rattle.std.specs.List.{flat_map}
 use Rattle.ob_interface.specs.Call.{Reply, Answers, Trapped}
 use Rattle.ob_interface.specs.Export.{Signature}
 use Rattle.ob_picture.specs.Places.{Band, at, band_height, bands, below, beyond, cell, columns_in, first, height, is_in, is_marked, width, x_of, y_of}
-use Rattle.ob_picture.specs.declared.places.Frame.{Frame}
+use Rattle.ob_picture.specs.declared.pixels.Frame.{Frame}
 use Rattle.ob_picture_chart.specs.Charts.{Chart, Happening, Begun, Mark, Taken, Ended, Sight}
 use Rattle.ob_picture_chart.specs.declared.charts.CallRange.{CallRange}
 use Rattle.ob_picture_chart.specs.declared.charts.Placed.{Placed}

@@ -4,7 +4,7 @@ use Rattle.ob_interface.specs.View.{signature_of}
 use Rattle.ob_interface.specs.declared.export.Export.{Export}
 use Rattle.ob_picture.specs.Places as Places
 use Rattle.ob_picture.specs.Shapes.{bar_at}
-use Rattle.ob_picture.specs.declared.places.Band.{Band}
+use Rattle.ob_picture.specs.declared.pixels.Band.{Band}
 use Rattle.ob_picture_chart.specs.ChartView.{sight_of}
 use Rattle.ob_picture_chart.specs.declared.charts.Sight.{Sight}
 use Rattle.ob_picture_chart.specs.Svg.{Shape}

@@ -2,7 +2,7 @@
 use Rattle.std.specs.Prelude.{ℕ, ◌-◌, List, Option, None, Some, cond, get_or, nat_lt, slice_get}
 use Rattle.std.specs.HashMap as hash
 use Rattle.ob_picture_chart.specs.Same.{is_same}
-use Rattle.ob_picture_chart.specs.declared.places.Noted.{Noted}
+use Rattle.ob_picture_chart.specs.declared.order_places.Noted.{Noted}
 use Rattle.ob_picture_chart.specs.declared.row.Row.{Row}
 use Rattle.wf_history.specs.declared.event.CallId.{CallId}
 

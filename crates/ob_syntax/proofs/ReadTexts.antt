@@ -12,7 +12,7 @@ use Rattle.ob_scan.specs.Tokens.{TokenizedText, HasTokens}
 use Rattle.ob_scan.specs.Lexemes.{lexemes}
 use Rattle.ob_parser.specs.declared.parser.ParseFault.{ParseFault}
 use Rattle.ob_parser.specs.declared.parser.ParseFault.TheVariants as ParseFaults
-use Rattle.ob_syntax.specs.declared.reader.ReadFault.TheVariants.{Scan, Parse}
+use Rattle.ob_syntax.specs.declared.tree_reader.ReadFault.TheVariants.{Scan, Parse}
 use Rattle.ob_grammar.specs.Tree.{Module}
 use Rattle.ob_grammar.specs.Grammar.{Lexemes, Derives}
 use Rattle.ob_grammar.specs.Conditions.{Breach, KeepsConditions, breaches}

@@ -1,8 +1,8 @@
 -- What reading a text to its module answers.
 use Rattle.std.specs.Prelude.{ℕ, List}
 use Rattle.ob_scan.specs.ScanFaults.{IsScanFault}
-use Rattle.ob_syntax.specs.declared.reader.ReadFault.{ReadFault}
-use Rattle.ob_syntax.specs.declared.reader.ReadFault.TheVariants.{Scan, Parse}
+use Rattle.ob_syntax.specs.declared.tree_reader.ReadFault.{ReadFault}
+use Rattle.ob_syntax.specs.declared.tree_reader.ReadFault.TheVariants.{Scan, Parse}
 use Rattle.ob_scan.specs.declared.fault.ScanFault.TheVariants as ScanFaults
 use Rattle.ob_parser.specs.declared.parser.ParseFault.TheVariants as ParseFaults
 use Rattle.ob_parser.specs.ParseFaults.{IsParseFaultOf}

@@ -28,7 +28,7 @@ pub enum ReadFault {
 
 impl From<ScanFault> for ReadFault {
     ghost use Rattle.std.specs.Prelude.{◌≡◌};
-    ghost use Rattle.ob_syntax.specs.declared.reader.ReadFault.TheVariants.{Scan};
+    ghost use Rattle.ob_syntax.specs.declared.tree_reader.ReadFault.TheVariants.{Scan};
 
     ghost from_gives = { λ fault e. e ≡ Scan fault };
 
@@ -39,7 +39,7 @@ impl From<ScanFault> for ReadFault {
 
 impl From<ParseFault> for ReadFault {
     ghost use Rattle.std.specs.Prelude.{◌≡◌};
-    ghost use Rattle.ob_syntax.specs.declared.reader.ReadFault.TheVariants.{Parse};
+    ghost use Rattle.ob_syntax.specs.declared.tree_reader.ReadFault.TheVariants.{Parse};
 
     ghost from_gives = { λ fault e. e ≡ Parse fault };
 

@@ -4,7 +4,7 @@ use Rattle.ob_text_reading.specs.Reading.{Heard, Leads, LeadsAs}
 use Rattle.ob_text_values_reading.specs.LineKinds.{kind_of}
 use Rattle.ob_text_reading.specs.HistoryContents.{heard_of}
 use Rattle.ob_text_values_reading.specs.declared.kind.LineKind.{LineKind}
-use Rattle.ob_text_reading.specs.declared.reader.Reader.{Reader}
+use Rattle.ob_text_reading.specs.declared.line_reader.Reader.{Reader}
 use Rattle.ob_text_reading.specs.RecordLines.{Line}
 use Rattle.ob_text_words.specs.Finding.{FindsAs}
 use Rattle.ob_typing.specs.Program.{Program}

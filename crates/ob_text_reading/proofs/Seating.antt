@@ -4,7 +4,7 @@ use Rattle.std.proofs.lemmas.Bool.{cases_eq, eq-eqb, ne_eqb, false≢true}
 use Rattle.std.proofs.lemmas.List.{append_cancel_left, length_push}
 use Rattle.std.proofs.lemmas.Option.{same_Some, slice_get_read}
 use Rattle.ob_interface.specs.Call.{ObjectCall, Reply}
-use Rattle.ob_text_reading.specs.declared.calls.Seat.{Seat}
+use Rattle.ob_text_reading.specs.declared.process_calls.Seat.{Seat}
 use Rattle.ob_text_reading.specs.Seats.{AreSeats, EndsCall, IsBusy, IsIdle, IsSeat}
 use Rattle.wf_history.specs.declared.event.CallId.{CallId}
 use Rattle.wf_history.specs.History.{Event, Begin, End, OwnEvent, Begins, Ends, in_turn, own_call, own_calls, own_event, own_events, IsHistory}

@@ -3,7 +3,7 @@ use Rattle.ob_store.specs.View.{variables_in}
 use Rattle.ob_text_reading.specs.HistoryLines.{HistoryTold}
 use Rattle.ob_text_reading.specs.Names.{events_of, named_all}
 use Rattle.ob_text_reading.specs.Reading.{Heard}
-use Rattle.ob_text_reading.specs.declared.reader.Reader.{Reader}
+use Rattle.ob_text_reading.specs.declared.line_reader.Reader.{Reader}
 use Rattle.ob_text_reading.specs.declared.history_reading.ReadHistory.{ReadHistory}
 use Rattle.ob_text_reading.specs.RecordContents.{carried_of}
 

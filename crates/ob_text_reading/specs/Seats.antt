@@ -1,7 +1,7 @@
 -- Where processes stand in their calls, as the events so far show them.
 use Rattle.std.specs.Prelude.{◌≡◌, ℕ, ◌+◌, ◌-◌, ◌*◌, List, [], ◌∷◌, ◌++◌, length, slice_get, Some, MatchOption}
 use Rattle.ob_interface.specs.Call.{ObjectCall, Reply}
-use Rattle.ob_text_reading.specs.declared.calls.Seat.{Seat}
+use Rattle.ob_text_reading.specs.declared.process_calls.Seat.{Seat}
 use Rattle.wf_history.specs.declared.event.CallId.{CallId}
 use Rattle.wf_history.specs.History.{Event, End, IsHistory, in_turn, own_calls, own_events}
 

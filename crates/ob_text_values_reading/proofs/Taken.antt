@@ -3,8 +3,8 @@ use Rattle.std.proofs.Common.{◌≡◌, ◌≢◌, ◌∙◌, ◌==◌, Bool, t
 use Rattle.std.proofs.lemmas.Bool.{false≢true}
 use Rattle.std.proofs.lemmas.Bool.Decides.{nat_tests}
 use Rattle.ob_carry.specs.View.{elements_of, fields_of, named_in}
-use Rattle.ob_carry.specs.declared.named.NamedField.{NamedField}
-use Rattle.ob_carry.specs.declared.named.NamedValue.{NamedValue}
+use Rattle.ob_carry.specs.declared.fields_by_name.NamedField.{NamedField}
+use Rattle.ob_carry.specs.declared.fields_by_name.NamedValue.{NamedValue}
 use Rattle.ob_interface.specs.declared.no_memory.NoMemory.{NoMemory}
 use Rattle.ob_interface.specs.declared.scalar.Scalar.{Scalar}
 use Rattle.ob_interface.specs.declared.scalar.ScalarType.{ScalarType}

@@ -3,7 +3,7 @@ use Rattle.std.proofs.Common.{◌≡◌, ◌∙◌, ℕ, ◌+◌, ◌<◌, IsTru
 use Rattle.std.proofs.lemmas.Bool.Decides.{nat_tests}
 use Rattle.ob_carry.specs.Carried.{AreDistinctEntries, Entry, NoneNamed}
 use Rattle.ob_carry.specs.View.{entry_of}
-use Rattle.ob_carry.specs.declared.named.NamedField.{NamedField}
+use Rattle.ob_carry.specs.declared.fields_by_name.NamedField.{NamedField}
 use Rattle.ob_interface.specs.declared.no_memory.NoMemory.{NoMemory}
 use Rattle.ob_meaning.specs.ByNameValue.{Value}
 use Rattle.ob_text_words.specs.Finding.{FindsAs}
@@ -19,8 +19,8 @@ use Rattle.ob_text_values_reading.specs.Turns.{FailsBehind, FaultBehind, TellsBe
 use Rattle.ob_text_values_reading.specs.Variables as Variables
 use Rattle.ob_text_values_reading.specs.Variables.{BeginsWith, IsVariableLine, SaysVariable}
 use Rattle.ob_text_values_reading.specs.Versions.{version_word}
-use Rattle.ob_text_values_reading.specs.declared.reading.ValuesFault.{ValuesFault}
-use Rattle.ob_text_values_reading.specs.declared.reading.ValuesFault.TheVariants as Faults
+use Rattle.ob_text_values_reading.specs.declared.value_reading.ValuesFault.{ValuesFault}
+use Rattle.ob_text_values_reading.specs.declared.value_reading.ValuesFault.TheVariants as Faults
 use Rattle.ob_text_values_reading.specs.declared.title.Version.{Version}
 use Rattle.ob_text_values_reading.specs.declared.title.Version.TheVariants as Versions
 

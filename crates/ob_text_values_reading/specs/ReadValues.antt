@@ -6,8 +6,8 @@ use Rattle.ob_text_values_reading.specs.Comments.{StandsAmong, said}
 use Rattle.ob_text_values_reading.specs.RecordTexts.{IsTitle, Line, record_lines}
 use Rattle.ob_text_values_reading.specs.Variables.{BeginsWith, IsVariableLine}
 use Rattle.ob_text_values_reading.specs.Versions.{version_word}
-use Rattle.ob_text_values_reading.specs.declared.reading.ValuesFault.{ValuesFault}
-use Rattle.ob_text_values_reading.specs.declared.reading.ValuesFault.TheVariants as Faults
+use Rattle.ob_text_values_reading.specs.declared.value_reading.ValuesFault.{ValuesFault}
+use Rattle.ob_text_values_reading.specs.declared.value_reading.ValuesFault.TheVariants as Faults
 use Rattle.ob_text_values_reading.specs.declared.title.Version.{Version}
 
 -- behind lines that tell these, a line leads to those: one of a variable whose name is new, or one that is not looked at

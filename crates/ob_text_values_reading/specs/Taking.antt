@@ -3,8 +3,8 @@ use Rattle.std.specs.Prelude.{◌≡◌, ◌≢◌, ℕ, ◌≤◌, ◌==◌, �
 use Rattle.std.specs.Borrow.{Bor}
 use Rattle.std.specs.List.{list_all}
 use Rattle.ob_carry.specs.View.{elements_of, fields_of, named_in}
-use Rattle.ob_carry.specs.declared.named.NamedField.{NamedField}
-use Rattle.ob_carry.specs.declared.named.NamedValue.{NamedValue}
+use Rattle.ob_carry.specs.declared.fields_by_name.NamedField.{NamedField}
+use Rattle.ob_carry.specs.declared.fields_by_name.NamedValue.{NamedValue}
 use Rattle.ob_meaning.specs.ByNameValue.{Value, Values, NamedValues, no_named}
 use Rattle.ob_text_values_reading.specs.ValueTexts.{AreElementTexts, AreFieldTexts, IsValueText, depth_of, depth_of_elements, depth_of_fields}
 use Rattle.ob_text_words.specs.Words.{IsName, Word}

@@ -3,8 +3,8 @@ use Rattle.std.specs.Prelude.{◌≡◌, ℕ, ◌+◌, List, [], ◌∷◌, ◌+
 use Rattle.ob_carry.specs.Carried.{Entry}
 use Rattle.ob_text_values_reading.specs.RecordTexts.{Line}
 use Rattle.ob_text_values_reading.specs.ReadValues.{AreTold, LeadsOn}
-use Rattle.ob_text_values_reading.specs.declared.reading.ValuesFault.{ValuesFault}
-use Rattle.ob_text_values_reading.specs.declared.reading.ValuesFault.TheVariants as Faults
+use Rattle.ob_text_values_reading.specs.declared.value_reading.ValuesFault.{ValuesFault}
+use Rattle.ob_text_values_reading.specs.declared.value_reading.ValuesFault.TheVariants as Faults
 
 -- a line leads from these to those, or to none where it may not stand there
 abbrev pub TellsLine : (told : List Entry) → Line → (next : List Entry) → Bool → Type 0

@@ -35,7 +35,7 @@ pub enum ValuesFault {
 
 impl From<AllocError> for ValuesFault {
     ghost use Rattle.std.specs.Prelude.{◌≡◌};
-    ghost use Rattle.ob_text_values_reading.specs.declared.reading.ValuesFault.TheVariants.{NoMemory};
+    ghost use Rattle.ob_text_values_reading.specs.declared.value_reading.ValuesFault.TheVariants.{NoMemory};
 
     ghost from_gives = { λ _ e. e ≡ NoMemory };
 
@@ -46,7 +46,7 @@ impl From<AllocError> for ValuesFault {
 
 impl From<NoMemory> for ValuesFault {
     ghost use Rattle.std.specs.Prelude.{◌≡◌};
-    ghost use Rattle.ob_text_values_reading.specs.declared.reading.ValuesFault.TheVariants as Faults;
+    ghost use Rattle.ob_text_values_reading.specs.declared.value_reading.ValuesFault.TheVariants as Faults;
 
     ghost from_gives = { λ _ e. e ≡ Faults.NoMemory };
 

@@ -6,7 +6,7 @@ use Rattle.ob_text_words.specs.Words.{Word}
 use Rattle.ob_text_words.specs.Schedule.{AreItems, FailsAtItem, HasNoForm, HasNoProcess, IsItem, IsScheduleFault, item_words, more, none, process_of}
 use Rattle.ob_text_words.specs.declared.item.Item.{Item}
 use Rattle.ob_text_words.proofs.ItemReading.{one_item}
-use Rattle.ob_text_words.specs.declared.schedule.ScheduleFault.TheVariants as Faults
+use Rattle.ob_text_words.specs.declared.schedule_texts.ScheduleFault.TheVariants as Faults
 
 module _ (processes : ℕ) where
   AreItems-append : (ws vs : List Word) (xs ys : List Item) → AreItems processes ws xs → AreItems processes vs ys → AreItems processes (ws ++ vs) (xs ++ ys)

@@ -4,8 +4,8 @@ use Rattle.ob_text_words.specs.Words.{Word, IsDigits, IsProcess, lines, words}
 use Rattle.ob_text_words.specs.LabelNames.{label_name}
 use Rattle.ob_text_words.specs.declared.item.Item.{Item}
 use Rattle.ob_text_words.specs.declared.item.Item.TheVariants as Items
-use Rattle.ob_text_words.specs.declared.schedule.ScheduleFault.{ScheduleFault}
-use Rattle.ob_text_words.specs.declared.schedule.ScheduleFault.TheVariants as Faults
+use Rattle.ob_text_words.specs.declared.schedule_texts.ScheduleFault.{ScheduleFault}
+use Rattle.ob_text_words.specs.declared.schedule_texts.ScheduleFault.TheVariants as Faults
 use Rattle.wf_table.specs.declared.process.Label.{Label}
 
 -- the words of a line are a comment where the first one begins with #

@@ -25,7 +25,7 @@ pub enum ScheduleFault {
 
 impl From<AllocError> for ScheduleFault {
     ghost use Rattle.std.specs.Prelude.{◌≡◌};
-    ghost use Rattle.ob_text_words.specs.declared.schedule.ScheduleFault.TheVariants.{NoMemory};
+    ghost use Rattle.ob_text_words.specs.declared.schedule_texts.ScheduleFault.TheVariants.{NoMemory};
 
     ghost from_gives = { λ _ e. e ≡ NoMemory };
 
@@ -36,7 +36,7 @@ impl From<AllocError> for ScheduleFault {
 
 impl<T: Drop> From<AllocFailed<T>> for ScheduleFault {
     ghost use Rattle.std.specs.Prelude.{◌≡◌};
-    ghost use Rattle.ob_text_words.specs.declared.schedule.ScheduleFault.TheVariants.{NoMemory};
+    ghost use Rattle.ob_text_words.specs.declared.schedule_texts.ScheduleFault.TheVariants.{NoMemory};
 
     ghost from_gives = { λ _ e. e ≡ NoMemory };
 

@@ -12,7 +12,7 @@ use Rattle.wf_history.proofs.Once.{one_begin}
 use Rattle.wf_history.proofs.Positions.{place_of, one_item, same_call}
 use Rattle.wf_order.specs.declared.rows.Begun.{Begun}
 use Rattle.wf_order.specs.declared.rows.Rows.{Rows}
-use Rattle.wf_order.specs.declared.turn.Turn.{Turn}
+use Rattle.wf_order.specs.declared.next_call.Turn.{Turn}
 use Rattle.wf_order.specs.Rows.{AreRows, begun_rows, call_at, row_of}
 use Rattle.wf_order.specs.Steps.{Configuration, IsLimit, IsStep}
 use Rattle.wf_order.specs.Turns.{AreTurns, BeginsFrom, IsFirstIn, IsFirstTurn, IsNext, one_from, turns}

@@ -4,7 +4,7 @@ use Rattle.wf_history.specs.declared.event.CallId.{CallId}
 use Rattle.wf_history.specs.History.{Event, Begin}
 use Rattle.wf_order.specs.declared.rows.Begun.{Begun}
 use Rattle.wf_order.specs.declared.rows.Rows.{Rows}
-use Rattle.wf_order.specs.declared.turn.Turn.{Turn}
+use Rattle.wf_order.specs.declared.next_call.Turn.{Turn}
 use Rattle.wf_order.specs.Rows.{begun_rows, row_of}
 
 -- the call begins at this place or behind it

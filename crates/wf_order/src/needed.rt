@@ -4,7 +4,7 @@ ghost use Rattle.std.specs.Prelude.{◌≡◌, ◌≤◌, ◌∷◌, ℕ, length
 ghost use Rattle.wf_history.specs.Legal.{IsLegal};
 ghost use Rattle.wf_order.specs.Listed.{EachIsNeeded, IsOpenCall, IsThinner, Replays};
 ghost use Rattle.wf_order.specs.Needed.{IsOpen, LeavesOut, NoneIsNeedless};
-ghost use Rattle.wf_order.specs.declared.listed.Listed as Rust;
+ghost use Rattle.wf_order.specs.declared.order_calls.Listed as Rust;
 
 use crate::Object;
 use crate::order_calls::{Listed, listed_all, names_of};

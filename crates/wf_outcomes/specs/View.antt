@@ -3,8 +3,8 @@ use Rattle.std.specs.Prelude.{map}
 use Rattle.ob_interface.specs.Call.{Reply}
 use Rattle.ob_interface.specs.View.{reply_of}
 use Rattle.wf_outcomes.specs.OutcomeOrders.{Told, CallTold, End}
-use Rattle.wf_outcomes.specs.declared.calls.ToldCall.{ToldCall}
-use Rattle.wf_outcomes.specs.declared.ends.ToldEnd.{ToldEnd}
+use Rattle.wf_outcomes.specs.declared.all_replies.ToldCall.{ToldCall}
+use Rattle.wf_outcomes.specs.declared.end_states.ToldEnd.{ToldEnd}
 use Rattle.wf_outcomes.specs.declared.reply_orders.ToldReply.{ToldReply}
 
 abbrev pub told_in : ToldReply → Told Reply

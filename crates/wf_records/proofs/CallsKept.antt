@@ -4,7 +4,7 @@ use Rattle.std.specs.Prelude.{slice_range}
 use Rattle.std.proofs.lemmas.List.{length-append, length-drop, get_or_append_left, drop_at, take_all, drop-append-le, take-append-le}
 use Rattle.ob_interface.specs.declared.scalar.Scalar.{Scalar}
 use Rattle.ob_interface.specs.Call.{ObjectCall}
-use Rattle.wf_records.specs.declared.calls.Head.{Head}
+use Rattle.wf_records.specs.declared.submitted_calls.Head.{Head}
 use Rattle.wf_records.specs.CallsKept.{calls_from, no_call, IsLaid, IsKeptWell}
 
 -- where the arguments of the call of this place begin

@@ -2,7 +2,7 @@
 use Rattle.std.specs.Prelude.{◌≡◌, ℕ, ◌-◌, ◌<◌, ◌≤◌, List, [], ◌∷◌, length, slice_range, slice_index_or}
 use Rattle.ob_interface.specs.declared.scalar.Scalar.{Scalar}
 use Rattle.ob_interface.specs.Call.{ObjectCall}
-use Rattle.wf_records.specs.declared.calls.Head.{Head}
+use Rattle.wf_records.specs.declared.submitted_calls.Head.{Head}
 
 -- the calls, and the number of the one at hand, or 0
 pub record KeptCalls : Type 0 where

@@ -14,7 +14,7 @@ use Rattle.wf_whole_outcomes.specs.declared.growing.Growing.{Growing}
 use Rattle.wf_whole_outcomes.specs.declared.nodes.Link.{Link}
 use Rattle.wf_whole_outcomes.specs.declared.nodes.Lists.{Lists}
 use Rattle.wf_whole_outcomes.specs.declared.nodes.Node.{Node}
-use Rattle.wf_whole_outcomes.specs.declared.search.Front.{Front}
+use Rattle.wf_whole_outcomes.specs.declared.layers.Front.{Front}
 use Rattle.wf_whole_outcomes.proofs.Layering.{layer_behind, layer_first, some_first, ways_push, with_these}
 use Rattle.wf_whole_outcomes.proofs.Listing.{beside}
 use Rattle.wf_whole_outcomes.proofs.Noding.{same_spot, spots_kept}

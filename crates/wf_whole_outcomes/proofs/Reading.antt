@@ -14,7 +14,7 @@ use Rattle.wf_whole_outcomes.specs.Nodes.{lists_in, spot_in, spots_in}
 use Rattle.wf_whole_outcomes.specs.View.{front_ways, replies_of, row_of, told_by, whole_at, wholes_from}
 use Rattle.wf_whole_outcomes.specs.Wholes.{WholeTold}
 use Rattle.wf_whole_outcomes.specs.declared.nodes.Node.{Node}
-use Rattle.wf_whole_outcomes.specs.declared.search.Front.{Front}
+use Rattle.wf_whole_outcomes.specs.declared.layers.Front.{Front}
 use Rattle.wf_whole_outcomes.proofs.Listing.{in_map, item_at, of_map}
 
 -- the names so far, and those of one more call

@@ -8,7 +8,7 @@ use Rattle.wf_whole_outcomes.specs.declared.growing.Growing.{Growing}
 use Rattle.wf_whole_outcomes.specs.declared.nodes.Link.{Link}
 use Rattle.wf_whole_outcomes.specs.declared.nodes.Lists.{Lists}
 use Rattle.wf_whole_outcomes.specs.declared.nodes.Node.{Node}
-use Rattle.wf_whole_outcomes.specs.declared.search.Front.{Front}
+use Rattle.wf_whole_outcomes.specs.declared.layers.Front.{Front}
 
 -- the lists that were found, by their numbers
 abbrev pub lists_in : Lists → List (List ℕ)

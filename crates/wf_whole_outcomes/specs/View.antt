@@ -8,7 +8,7 @@ use Rattle.wf_whole_outcomes.specs.Layers.{ways_of}
 use Rattle.wf_whole_outcomes.specs.Leaves.{named}
 use Rattle.wf_whole_outcomes.specs.Nodes.{lists_in, trail_in}
 use Rattle.wf_whole_outcomes.specs.Wholes.{WholeTold}
-use Rattle.wf_whole_outcomes.specs.declared.search.Front.{Front}
+use Rattle.wf_whole_outcomes.specs.declared.layers.Front.{Front}
 use Rattle.wf_whole_outcomes.specs.declared.wholes.ToldWholes.{ToldWholes}
 
 -- the replies that have these numbers

@@ -27,7 +27,7 @@ pub enum LayersFault {
 
 impl From<NoMemory> for LayersFault {
     ghost use Rattle.std.specs.Prelude.{◌≡◌};
-    ghost use Rattle.wf_whole_outcomes.specs.declared.search.LayersFault.TheVariants as Faults;
+    ghost use Rattle.wf_whole_outcomes.specs.declared.layers.LayersFault.TheVariants as Faults;
 
     ghost from_gives = { λ _ e. e ≡ Faults.NoMemory };
 

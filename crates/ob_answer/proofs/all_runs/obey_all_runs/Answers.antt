@@ -3,7 +3,7 @@ use Rattle.std.proofs.lemmas.Result.{IfOk-weaker}
 use Rattle.ob_answer.specs.AllRuns.{all_runs_of}
 use Rattle.ob_answer.specs.Answers.{IsAllRunsMade}
 use Rattle.ob_answer_files.specs.Reads.{AreCallsRead, files_of_calls, record_in_calls}
-use Rattle.ob_answer_files.specs.declared.reading.CallsFiles.{CallsFiles}
+use Rattle.ob_answer_files.specs.declared.file_reading.CallsFiles.{CallsFiles}
 use Rattle.ob_command.specs.Commands.{calls_request_of}
 use Rattle.ob_answer_files.proofs.FilesRead.{made_of_part, unread_outcome}
 use Rattle.ob_answer.proofs.all_runs.obey_all_runs.Goals as goal

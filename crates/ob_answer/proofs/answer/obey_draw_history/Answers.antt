@@ -2,7 +2,7 @@ use Rattle.std.proofs.Common.{[], ◌∷◌, Option, subst}
 use Rattle.std.proofs.lemmas.Result.{IfOk-weaker}
 use Rattle.ob_answer.specs.Answers.{IsMade}
 use Rattle.ob_answer_files.specs.Reads.{AreTwoRead}
-use Rattle.ob_answer_files.specs.declared.reading.TwoFiles.{TwoFiles}
+use Rattle.ob_answer_files.specs.declared.file_reading.TwoFiles.{TwoFiles}
 use Rattle.ob_answer_searches.specs.HistoryPictureAnswers.{IsHistoryPictureAnswer}
 use Rattle.ob_command.specs.CommandLine.{DrawHistory}
 use Rattle.ob_command.specs.Commands.{seen_request_of}

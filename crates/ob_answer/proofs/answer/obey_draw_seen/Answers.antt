@@ -2,7 +2,7 @@ use Rattle.std.proofs.Common.{[], ◌∷◌, Option, subst}
 use Rattle.std.proofs.lemmas.Result.{IfOk-weaker}
 use Rattle.ob_answer.specs.Answers.{IsMade, IsSeenPictureAnswer}
 use Rattle.ob_answer_files.specs.Reads.{AreTwoRead}
-use Rattle.ob_answer_files.specs.declared.reading.TwoFiles.{TwoFiles}
+use Rattle.ob_answer_files.specs.declared.file_reading.TwoFiles.{TwoFiles}
 use Rattle.ob_picture_chart.specs.declared.charts.CallRange.{CallRange}
 use Rattle.ob_command.specs.CommandLine.{DrawRecord}
 use Rattle.ob_answer_files.proofs.FilesRead.{two_made, unread_outcome}

@@ -2,7 +2,7 @@ use Rattle.std.proofs.Common.{◌∷◌, subst}
 use Rattle.std.proofs.lemmas.Result.{IfOk-weaker}
 use Rattle.ob_answer.specs.Answers.{IsCallsMade}
 use Rattle.ob_answer_files.specs.Reads.{AreCallsRead, files_of_calls, record_in_calls}
-use Rattle.ob_answer_files.specs.declared.reading.CallsFiles.{CallsFiles}
+use Rattle.ob_answer_files.specs.declared.file_reading.CallsFiles.{CallsFiles}
 use Rattle.ob_command.specs.Commands.{calls_request_of}
 use Rattle.ob_answer_files.proofs.FilesRead.{made_of_part, unread_outcome}
 use Rattle.ob_answer.proofs.command_answers.obey_calls.Goals as goal

@@ -2,7 +2,7 @@ use Rattle.std.proofs.Common.{◌∷◌, subst}
 use Rattle.std.proofs.lemmas.Result.{IfOk-weaker}
 use Rattle.ob_answer.specs.Answers.{IsFinishedMade}
 use Rattle.ob_answer_files.specs.Reads.{IsRunRead, files_of_run, record_in_run}
-use Rattle.ob_answer_files.specs.declared.reading.RunFiles.{RunFiles}
+use Rattle.ob_answer_files.specs.declared.file_reading.RunFiles.{RunFiles}
 use Rattle.ob_command.specs.Commands.{run_request_of}
 use Rattle.ob_answer_files.proofs.FilesRead.{made_of_part, unread_outcome}
 use Rattle.ob_answer.proofs.schedule_answers.obey_finished.Goals as goal

@@ -1,7 +1,7 @@
 use Rattle.std.proofs.Common.{[], ◌∷◌, option_to_list, subst}
 use Rattle.ob_answer_files.specs.Reads.{AreThreeRead, IsRecordRead}
-use Rattle.ob_answer_files.specs.declared.reading.RecordFile.{RecordFile}
-use Rattle.ob_answer_files.specs.declared.reading.ThreeFiles.{ThreeFiles}
+use Rattle.ob_answer_files.specs.declared.file_reading.RecordFile.{RecordFile}
+use Rattle.ob_answer_files.specs.declared.file_reading.ThreeFiles.{ThreeFiles}
 use Rattle.ob_command.specs.Commands.{run_request_of}
 use Rattle.ob_answer_files.proofs.FilesRead.{unread_behind_part}
 use Rattle.ob_answer_files.proofs.reading.read_run.Goals as goal

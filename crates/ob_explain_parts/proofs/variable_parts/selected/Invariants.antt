@@ -1,7 +1,7 @@
 -- What is left of the tokens leads to the part, and there are not more open brackets than tokens so far.
 use Rattle.std.proofs.Common.{◌≡◌, ◌≤◌, drop}
 use Rattle.ob_explain_parts.specs.Parts.{open_brackets, selected}
-use Rattle.ob_explain_parts.specs.declared.parts.Selecting.TheVariants.{Part}
+use Rattle.ob_explain_parts.specs.declared.variable_parts.Selecting.TheVariants.{Part}
 use Rattle.ob_explain_parts.proofs.parts.selected.Given as goal
 
 abbrev pub invariant-loop-token : goal.invariant-loop-token

@@ -1,7 +1,7 @@
 use Rattle.std.proofs.Common.{option_map}
 use Rattle.std.proofs.lemmas.Result.{IfOk-weaker}
 use Rattle.ob_checked.specs.CheckedModule.{program_in}
-use Rattle.ob_object_run.specs.declared.order.OrderFault.TheVariants as Order
+use Rattle.ob_object_run.specs.declared.order_checker.OrderFault.TheVariants as Order
 use Rattle.ob_object_calls.proofs.RepliesCrossing.{found_here, no_fault_of_record, none_of_beginning}
 use Rattle.ob_object_calls.proofs.call_outcome_text.call_in_record.Goals as goal
 use Rattle.ob_object_calls.specs.View.{made_of}

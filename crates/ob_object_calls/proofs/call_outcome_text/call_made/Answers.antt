@@ -1,7 +1,7 @@
 use Rattle.std.proofs.Common.{option_map}
 use Rattle.std.proofs.lemmas.Result.{IfOk-weaker}
 use Rattle.ob_checked.specs.CheckedModule.{program_in}
-use Rattle.ob_object_run.specs.declared.order.OrderFault.TheVariants as Order
+use Rattle.ob_object_run.specs.declared.order_checker.OrderFault.TheVariants as Order
 use Rattle.ob_object_calls.proofs.RepliesCrossing.{found_named, no_fault_of_text}
 use Rattle.ob_object_calls.proofs.call_outcome_text.call_made.Goals as goal
 use Rattle.ob_object_calls.specs.View.{made_of}

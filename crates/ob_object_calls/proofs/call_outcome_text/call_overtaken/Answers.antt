@@ -1,6 +1,6 @@
 use Rattle.std.proofs.lemmas.Result.{IfOk-weaker}
 use Rattle.ob_checked.specs.CheckedModule.{program_in}
-use Rattle.ob_object_run.specs.declared.order.OrderFault.TheVariants as Order
+use Rattle.ob_object_run.specs.declared.order_checker.OrderFault.TheVariants as Order
 use Rattle.ob_object_calls.proofs.RepliesCrossing.{no_fault_of_text, overtaken_named}
 use Rattle.ob_object_calls.proofs.call_outcome_text.call_overtaken.Goals as goal
 use Rattle.ob_object_calls.specs.declared.verifying.VerifyFault.TheVariants as Faults

@@ -1,6 +1,6 @@
 use Rattle.std.proofs.lemmas.Result.{IfOk-weaker}
 use Rattle.ob_checked.specs.CheckedModule.{program_in}
-use Rattle.ob_object_run.specs.declared.order.OrderFault.TheVariants as Order
+use Rattle.ob_object_run.specs.declared.order_checker.OrderFault.TheVariants as Order
 use Rattle.ob_object_calls.proofs.RepliesCrossing.{no_fault_of_record, overtaken_here}
 use Rattle.ob_object_calls.proofs.call_outcome_text.overtaken_in_record.Goals as goal
 

@@ -9,7 +9,7 @@ use Rattle.ob_store.specs.View.{state_of}
 use Rattle.wf_outcomes.specs.Explored.{calls_in}
 use Rattle.wf_outcomes.specs.OutcomeOrders.{AreOutcomes, End, IsItself}
 use Rattle.wf_outcomes.specs.View.{call_in, end_in}
-use Rattle.wf_outcomes.specs.declared.ends.ToldEnd.{ToldEnd}
+use Rattle.wf_outcomes.specs.declared.end_states.ToldEnd.{ToldEnd}
 use Rattle.ob_object_outcomes.proofs.finding.outcomes_found.Goals as goal
 
 abbrev ends_in : List (ToldEnd KeptState) → List (End Activation)

@@ -4,7 +4,7 @@ use Rattle.std.proofs.lemmas.List.{take_all}
 use Rattle.ob_picture_chart.proofs.Orders.{noted_new, noted_old}
 use Rattle.ob_picture_chart.specs.Moments.{place_in}
 use Rattle.ob_picture_chart.specs.Places.{noted_in}
-use Rattle.ob_picture_chart.specs.declared.places.Noted.{Noted}
+use Rattle.ob_picture_chart.specs.declared.order_places.Noted.{Noted}
 use Rattle.wf_history.specs.declared.event.CallId.{CallId}
 use Rattle.ob_picture_chart.proofs.order.noted.Goals as goal
 use Rattle.ob_picture_chart.proofs.order.noted.Goals.{then-get-eq0+in_ok-note, else-get-eq0}

@@ -1,5 +1,5 @@
 use Rattle.std.proofs.Common.{◌≡◌, sym, ◌∙◌, ap}
-use Rattle.ob_syntax.specs.declared.reader.ReadFault.TheVariants.{Scan, Parse}
+use Rattle.ob_syntax.specs.declared.tree_reader.ReadFault.TheVariants.{Scan, Parse}
 use Rattle.ob_syntax.specs.Places.{bare}
 use Rattle.ob_syntax.specs.ReadFaults.{IsReadFault, in_scan, in_parse, IsWant}
 use Rattle.ob_grammar.specs.View.{module_of}

@@ -1,7 +1,7 @@
 -- One turn more comes sooner, or does not.
 use Rattle.std.proofs.Common.{◌≡◌, sym, ap, subst, ◌∙◌, ℕ, suc, ◌+◌, ◌<◌, ◌≤◌, List, [], ◌∷◌, ◌++◌, Some, get_or, take, arith}
 use Rattle.std.proofs.lemmas.Option.{slice_get-get_or}
-use Rattle.wf_order.specs.declared.turn.Turn.{Turn}
+use Rattle.wf_order.specs.declared.next_call.Turn.{Turn}
 use Rattle.wf_order.specs.Turns.{IsFirstIn}
 use Rattle.std.specs.List.{slice_get}
 use Rattle.wf_history.proofs.Positions.{take_next}

@@ -3,7 +3,7 @@ use Rattle.std.proofs.Common.{◌≡◌, sym, ap, subst, ◌∙◌, ◌+◌, ◌
 use Rattle.std.proofs.lemmas.Option.{same_Some}
 use Rattle.smallvec.specs.SmallVec.{SmallVec}
 use Rattle.wf_order.specs.declared.rows.Begun.{Begun}
-use Rattle.wf_order.specs.declared.turn.Turn.{Turn}
+use Rattle.wf_order.specs.declared.next_call.Turn.{Turn}
 use Rattle.wf_order.specs.Turns.{AreTurns}
 use Rattle.wf_order.proofs.Turning.{turns_kept, turns_more}
 use Rattle.wf_order.proofs.turn.turns_from.Goals.{then-place-limit+then-place-from+in_ok-push, else-place-limit, else-place-limit-via-then-place-limit+else-place-from, else-place-limit-via-else-place-limit}

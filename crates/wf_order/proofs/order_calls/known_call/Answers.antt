@@ -6,7 +6,7 @@ use Rattle.wf_history.specs.Legal.{HasBegun}
 use Rattle.wf_order.proofs.Placing.{begun_here, not_begun, not_numbered, replied_here}
 use Rattle.wf_order.proofs.listed.known_call.Goals as goal
 use Rattle.wf_order.specs.Listed.{IsListed}
-use Rattle.wf_order.specs.declared.listed.Listed.{Listed}
+use Rattle.wf_order.specs.declared.order_calls.Listed.{Listed}
 
 pub returns-in_err-place-clause-listed : goal.returns-in_err-place-clause-listed
 returns-in_err-place-clause-listed c = λ history processes are.

@@ -4,7 +4,7 @@ use Rattle.std.proofs.lemmas.List.{map-append}
 use Rattle.std.specs.List.{Contains}
 use Rattle.ob_interface.specs.Call.{Reply}
 use Rattle.ob_interface.specs.View.{reply_of}
-use Rattle.wf_outcomes.specs.declared.replies.Possible.{Possible}
+use Rattle.wf_outcomes.specs.declared.call_replies.Possible.{Possible}
 use Rattle.wf_outcomes.specs.Outcomes.{reply_had}
 use Rattle.wf_outcomes.specs.Possible.{had_in, reply_in}
 use Rattle.wf_outcomes.proofs.replies.add_reply.Goals as goal

@@ -10,7 +10,7 @@ use Rattle.wf_outcomes.specs.Outcomes.{LeadsToPlace}
 use Rattle.wf_outcomes.proofs.Matching.{match_more, match_none}
 use Rattle.wf_outcomes.proofs.TellingOrders.{TellsEnd, ends_are, state_there}
 use Rattle.wf_outcomes.specs.View.{end_in}
-use Rattle.wf_outcomes.specs.declared.ends.ToldEnd.{ToldEnd}
+use Rattle.wf_outcomes.specs.declared.end_states.ToldEnd.{ToldEnd}
 use Rattle.wf_outcomes.proofs.ends.ends_told.Goals as goal
 
 -- the place that was read is one of the places

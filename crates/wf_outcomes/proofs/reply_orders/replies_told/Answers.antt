@@ -9,7 +9,7 @@ use Rattle.wf_outcomes.proofs.OutcomesLists.{item_here}
 use Rattle.wf_outcomes.specs.Explored.{all_kept, calls_in}
 use Rattle.wf_outcomes.specs.Outcomes.{AreReplies}
 use Rattle.wf_outcomes.specs.Possible.{had_in}
-use Rattle.wf_outcomes.specs.declared.replies.Possible.{Possible}
+use Rattle.wf_outcomes.specs.declared.call_replies.Possible.{Possible}
 use Rattle.wf_outcomes.proofs.Matching.{match_more, match_none}
 use Rattle.wf_outcomes.proofs.TellingOrders.{TellsReply, replies_are, told_behind}
 use Rattle.wf_outcomes.specs.View.{told_in}

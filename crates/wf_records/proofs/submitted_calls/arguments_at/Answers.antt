@@ -1,6 +1,6 @@
 use Rattle.std.proofs.Common.{◌≡◌, ℕ, ◌-◌, length, get_or, take, drop, inl, inr, ap, sym, ◌∙◌, arith, rules}
 use Rattle.ob_interface.specs.Call.{ObjectCall}
-use Rattle.wf_records.specs.declared.calls.Head.{Head}
+use Rattle.wf_records.specs.declared.submitted_calls.Head.{Head}
 use Rattle.wf_records.specs.CallsKept.{no_call}
 use Rattle.wf_records.proofs.CallsKept.{start_at, start_is, stands_at, call_from}
 use Rattle.wf_records.proofs.calls.arguments_at.Goals as goal

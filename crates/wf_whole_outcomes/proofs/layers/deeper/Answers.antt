@@ -2,8 +2,8 @@
 use Rattle.std.proofs.Common.{◌≡◌, ap, ◌∙◌, ◌+◌, ℕ, Err}
 use Rattle.std.proofs.lemmas.Result.{err_from_is_err_and}
 use Rattle.wf_whole_outcomes.specs.Graph.{rows_in}
-use Rattle.wf_whole_outcomes.specs.declared.search.LayersFault.{LayersFault}
-use Rattle.wf_whole_outcomes.specs.declared.search.LayersFault.TheVariants.{TooMany}
+use Rattle.wf_whole_outcomes.specs.declared.layers.LayersFault.{LayersFault}
+use Rattle.wf_whole_outcomes.specs.declared.layers.LayersFault.TheVariants.{TooMany}
 use Rattle.wf_whole_outcomes.proofs.Advancing.{own_edge}
 use Rattle.wf_whole_outcomes.proofs.Fronting.{front_on, over_on}
 use Rattle.wf_whole_outcomes.proofs.search.deeper.Goals as goal

@@ -10,7 +10,7 @@ use Rattle.wf_whole_outcomes.specs.Graph.{next_from, rows_in}
 use Rattle.wf_whole_outcomes.specs.Layers.{HasOver, IsLayer, ways_of}
 use Rattle.wf_whole_outcomes.specs.Nodes.{IsFront, first_spot, lists_in, spot_in, spots_in, trail_in}
 use Rattle.wf_whole_outcomes.specs.declared.edges.Edge.{Edge}
-use Rattle.wf_whole_outcomes.specs.declared.search.Front.{Front}
+use Rattle.wf_whole_outcomes.specs.declared.layers.Front.{Front}
 use Rattle.wf_outcomes.specs.Explored.{all_kept, calls_in}
 use Rattle.wf_outcomes.specs.declared.exploring.ExploreFault.{ExploreFault}
 use Rattle.wf_outcomes.specs.declared.exploring.ExploreFault.TheVariants.{TooMany}

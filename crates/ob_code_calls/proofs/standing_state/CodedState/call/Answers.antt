@@ -4,7 +4,7 @@ use Rattle.std.specs.Prelude.{ℤ}
 use Rattle.std.specs.Vec.{with_items}
 use Rattle.ob_code_calls.specs.Calls.{IsMade, block_behind}
 use Rattle.ob_code_calls.specs.Parts.{parts_in}
-use Rattle.ob_code_calls.specs.declared.calls.CodeCalls.{CodeCalls}
+use Rattle.ob_code_calls.specs.declared.block_calls.CodeCalls.{CodeCalls}
 use Rattle.ob_code_correct.specs.Compiled.{IsFitting}
 use Rattle.ob_code_correct.specs.Parts.{IsLawfulFor}
 use Rattle.ob_code_calls.proofs.Again.{left_more, noted_more}

@@ -7,7 +7,7 @@ use Rattle.std.proofs.lemmas.Option.{MatchOption-at_none, MatchOption-at_some, s
 use Rattle.std.specs.List.{slice_get}
 use Rattle.ob_interface.specs.View.{reply_of}
 use Rattle.wf_history.proofs.Positions.{contains_at}
-use Rattle.wf_outcomes.specs.declared.replies.Possible.{Possible}
+use Rattle.wf_outcomes.specs.declared.call_replies.Possible.{Possible}
 use Rattle.wf_outcomes.specs.Explored.{kept_in, all_kept, calls_in}
 use Rattle.wf_outcomes.specs.Outcomes.{HasNoReply, IsOnlyReply}
 use Rattle.wf_outcomes.specs.Possible.{had_in}

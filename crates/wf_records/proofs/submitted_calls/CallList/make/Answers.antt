@@ -1,6 +1,6 @@
 use Rattle.std.proofs.Common.{◌≡◌, ◌-◌, ◌<◌, ◌++◌, List, length, get_or, ap, ap₂, ◌∙◌, arith}
 use Rattle.ob_interface.specs.declared.scalar.Scalar.{Scalar}
-use Rattle.wf_records.specs.declared.calls.Head.{Head}
+use Rattle.wf_records.specs.declared.submitted_calls.Head.{Head}
 use Rattle.wf_records.specs.CallsKept.{KeptCalls, calls_from, no_call}
 use Rattle.wf_records.proofs.CallsKept.{length-calls_from, call_is}
 use Rattle.wf_records.proofs.calls.CallList.make.Goals as goal

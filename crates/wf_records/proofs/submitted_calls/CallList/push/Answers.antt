@@ -2,7 +2,7 @@ use Rattle.std.proofs.Common.{◌≡◌, ◌++◌, ◌∷◌, [], List, ap, ◌�
 use Rattle.ob_interface.specs.declared.scalar.Scalar.{Scalar}
 use Rattle.ob_interface.specs.View.{call_of}
 use Rattle.ob_interface.specs.Call.{ObjectCall}
-use Rattle.wf_records.specs.declared.calls.Head.{Head}
+use Rattle.wf_records.specs.declared.submitted_calls.Head.{Head}
 use Rattle.wf_records.specs.CallsKept.{calls_from}
 use Rattle.wf_records.proofs.CallsKept.{pushed, well_pushed}
 use Rattle.wf_records.proofs.calls.CallList.push.Goals as goal
