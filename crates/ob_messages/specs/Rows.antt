@@ -6,8 +6,8 @@ use denote.Enum.Bare.{sameb}
 use Rattle.ob_scan.specs.declared.token.Kind.{Kind}
 use Rattle.ob_scan.specs.contracts.token.Kind as scanned
 use Rattle.ob_messages.specs.Words.{is_same_in_any_case}
-use Rattle.ob_messages.specs.contracts.table.Fact as facts
-use Rattle.ob_messages.specs.contracts.table.Number as numbers
+use Rattle.ob_messages.specs.contracts.table_rows.Fact as facts
+use Rattle.ob_messages.specs.contracts.table_rows.Number as numbers
 use Rattle.ob_messages.specs.declared.matcher.View.{View}
 use Rattle.ob_messages.specs.declared.table_rows.Fact.{Fact}
 use Rattle.ob_messages.specs.declared.table_rows.Number.{Number}

@@ -7,7 +7,7 @@ use Rattle.ob_messages.specs.Groups.{groups, listed, phrases}
 use Rattle.ob_messages.specs.Kinds.{kind_name, sample}
 use Rattle.ob_messages.specs.Rows.{Piece, end_of, hint_of, sentence_of}
 use Rattle.ob_messages.specs.Shown.{shown_byte}
-use Rattle.ob_messages.specs.contracts.table.Type.{the_type}
+use Rattle.ob_messages.specs.contracts.table_rows.Type.{the_type}
 use Rattle.ob_messages.specs.declared.matcher.View.{View}
 use Rattle.ob_messages.specs.declared.said.Evidence.{Evidence as EvidenceOf}
 use Rattle.ob_messages.specs.declared.said.TheConstants.{MAKINGS, TYPES}

@@ -2,6 +2,7 @@ pub mod Comments
 pub mod FaultFacts
 pub mod Listings
 pub mod Looks
+pub mod Numerals
 pub mod Reached
 pub mod Runs
 pub mod Scanners

@@ -1,19 +1,19 @@
 -- What a look at the next token of a scanner leads to.
-use Rattle.std.proofs.Common.{◌≡◌, ℕ, zero, suc, ◌+◌, ◌<◌, ◌≤◌, List, [], ◌∷◌, ◌++◌, Option, Some, None, Ok, option_map, slice_get, is_some, IsSome, IfSome, length, take, refl, sym, ◌∙◌, ap, subst, arith}
+use Rattle.std.proofs.Common.{◌≡◌, ℕ, zero, suc, ◌<◌, ◌≤◌, List, [], ◌∷◌, ◌++◌, Option, Some, None, Ok, option_map, slice_get, IsSome, IfSome, length, take, refl, sym, ◌∙◌, ap, subst, arith}
 use Rattle.std.specs.List.{All}
 use Rattle.std.proofs.lemmas.List.{length-map}
 use Rattle.std.proofs.lemmas.List.Elements.{All-head, All-tail}
-use Rattle.std.proofs.lemmas.Option.{slice_get_within, slice_get-map, slice_get_past}
+use Rattle.std.proofs.lemmas.Option.{slice_get_within, slice_get-map}
 use Rattle.ob_scan.specs.declared.fault.ScanFault.{ScanFault}
 use Rattle.ob_scan.specs.declared.token.Lent.{Lent}
 use Rattle.ob_scan.specs.declared.token.Token.{Token}
 use Rattle.ob_scan.specs.Tokens.{HasTokens, TokenizedText, spelling}
 use Rattle.ob_scan.specs.Lexemes.{Lexeme, lexeme, lexemes, IsSpelled}
-use Rattle.ob_scan.specs.Scanners.{ScannedText, token_of, HasGiven, Gives, GivesToken, HasEnded, MeetsFault}
+use Rattle.ob_scan.specs.Scanners.{ScannedText, token_of, HasGiven, Gives, HasEnded, MeetsFault}
 use Rattle.ob_scan.proofs.Reached.{no_others}
 use Rattle.ob_scan.proofs.Spelled.{before_spelled}
-use Rattle.ob_scan.specs.Sources.{State, Stands, Steps, lexeme_of}
-use Rattle.ob_scan.specs.Scanned.{Scan, HasGivenSome, IsScan, GivesNext, looked_at, scanned, Begins, GivesNone, Looks}
+use Rattle.ob_scan.specs.Sources.{Stands, Steps, lexeme_of}
+use Rattle.ob_scan.specs.Scanned.{Scan, HasGivenSome, IsScan, looked_at, scanned, Begins, GivesNone, Looks}
 
 -- where no token is given
 

@@ -1,14 +1,10 @@
 -- The printed text of a module leads back to that module, but for places.
-use Rattle.std.proofs.Common.{◌≡◌, ℕ, ◌+◌, ◌-◌, ◌*◌, ◌<◌, ◌≤◌, ◌^◌, true, List, [], ◌∷◌, length, map, fold, refl, sym, ◌∙◌, ap, subst, arith}
-use Rattle.std.specs.List.{All, list_all}
+use Rattle.std.proofs.Common.{◌≡◌, ℕ, ◌<◌, ◌≤◌, ◌^◌, List, [], ◌∷◌, length, map, refl, sym, ◌∙◌, ap, subst, arith}
+use Rattle.std.specs.List.{All}
 use Rattle.std.specs.Option.{unwrap_or}
 use Rattle.std.specs.Fmt.{decimal}
-use Rattle.std.specs.Char.{is_ascii_digit, digit_value}
-use Rattle.std.proofs.lemmas.Bool.{and_parts, and_from}
-use Rattle.std.proofs.lemmas.Bool.Decides.{nat_tests}
 use Rattle.std.proofs.lemmas.Fmt.{digits_decimal, digits_value-decimal, decimal_nonempty}
 use Rattle.std.proofs.lemmas.List.Elements.{All-nil, All-cons, All-head, All-tail}
-use Rattle.std.proofs.lemmas.Str.Parse.{IsDigitsTest, FoldsDigits, IsNumeralModel, numerals_by_fold}
 use Rattle.ob_scan.specs.declared.token.Kind.{Kind}
 use Rattle.ob_scan.specs.Limits.{largest_number}
 use Rattle.ob_scan.specs.declared.token.Token.{Token}
@@ -16,6 +12,7 @@ use Rattle.ob_scan.specs.Spelling as Spelling
 use Rattle.ob_scan.specs.Spelling.{Spells, fixed_spelling, number_value}
 use Rattle.ob_scan.specs.Tokens.{spelling}
 use Rattle.ob_scan.specs.Lexemes.{Lexeme, lexeme, IsSpelled, spelled, lexemes}
+use Rattle.ob_scan.proofs.Numerals.{AreDigits, numerals}
 use Rattle.ob_grammar.specs.Tree.{Module}
 use Rattle.ob_grammar.specs.Grammar.{Lexemes}
 use Rattle.ob_grammar.specs.Conditions.{KeepsConditions}
@@ -28,31 +25,6 @@ use Rattle.ob_syntax.proofs.SpacedTokens.{IsWord, spaced_tokens}
 use Rattle.ob_syntax.proofs.Worded.{word_of, free_bytes, derived_words}
 
 -- the digits of a number spell it
-
-abbrev AreDigits : List ℕ → Type 0
-AreDigits ds = list_all is_ascii_digit ds ≡ true
-
-digits_test : IsDigitsTest AreDigits
-digits_test = record {
-  empty = refl;
-  parts = λ c cs h.
-      (let p = and_parts (is_ascii_digit c) (list_all is_ascii_digit cs) h in
-      let d : is_ascii_digit c ≡ true = p.0 in
-      ((grind (arith, nat_tests), grind (arith, nat_tests)), p.1));
-  more = λ c cs k h. and_from (is_ascii_digit c) (list_all is_ascii_digit cs) (grind (arith, nat_tests)) h;
-}
-
-abbrev value_after : ℕ → List ℕ → ℕ
-value_after = fold (λ value digit. value * 10 + digit_value digit)
-
-folds : FoldsDigits value_after
-folds = record {
-  empty = λ n. refl;
-  more = λ n c cs k. (let e : digit_value c ≡ c - 48 = grind (arith, nat_tests) in ap (λ d. value_after (n * 10 + d) cs) e);
-}
-
-numerals : IsNumeralModel AreDigits number_value
-numerals = numerals_by_fold AreDigits digits_test value_after folds
 
 digits_spell : (ds : List ℕ) → AreDigits ds → 0 < length ds → Spells ds Kind.Number
 digits_spell [] h some = absurd (omega arith)

@@ -1,7 +1,7 @@
 use Rattle.ob_answer_files.specs.Reads.{record_in_calls}
 use Rattle.ob_command.specs.Commands.{calls_request_of}
 use Rattle.ob_answer_explained.proofs.TextsSame.{calls_same}
-use Rattle.ob_answer_explained.proofs.texts.calls_with.Goals as goal
+use Rattle.ob_answer_explained.proofs.asked_texts.calls_with.Goals as goal
 
 pub returns : goal.returns
 returns c = calls_same (calls_request_of c.args.command) _ _ _ _ _ (record_in_calls c.args.bytes.now) _ _ _

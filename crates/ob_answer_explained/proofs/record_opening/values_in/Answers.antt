@@ -2,7 +2,7 @@ use Rattle.std.proofs.Common.{ℕ, List, subst}
 use Rattle.ob_answer_explained.specs.Beginnings.{by_body, by_values, none}
 use Rattle.ob_carry.specs.View.{entries_of}
 use Rattle.ob_text_values_reading.specs.ReadValues.{AreValuesOf, IsValuesFault}
-use Rattle.ob_answer_explained.proofs.values.values_in.Goals as goal
+use Rattle.ob_answer_explained.proofs.record_opening.values_in.Goals as goal
 
 pub returns-in-None-clause-begins : goal.returns-in-None-clause-begins
 returns-in-None-clause-begins c = rw c.in-None.is by_body

@@ -4,7 +4,7 @@ use Rattle.ob_answer_files.specs.declared.file_reading.RecordFile.{RecordFile}
 use Rattle.ob_answer_files.specs.declared.file_reading.ThreeFiles.{ThreeFiles}
 use Rattle.ob_command.specs.Commands.{run_request_of}
 use Rattle.ob_answer_files.proofs.FilesRead.{unread_behind_part}
-use Rattle.ob_answer_files.proofs.reading.read_run.Goals as goal
+use Rattle.ob_answer_files.proofs.file_reading.read_run.Goals as goal
 
 pub returns-in-Unread-2 : goal.returns-in-Unread-2
 returns-in-Unread-2 g c =

@@ -1,6 +1,6 @@
 use Rattle.std.proofs.Common.{ℕ, Bor, List, arith, map, sym}
 use Rattle.ob_answer_files.proofs.Cuts.{cut_short, left_over, next_joined, next_lengths}
-use Rattle.ob_answer_files.proofs.texts.texts_in.Goals as goal
+use Rattle.ob_answer_files.proofs.joined_texts.texts_in.Goals as goal
 
 pub returns-in_default : goal.returns-in_default
 returns-in_default c =

@@ -1,7 +1,7 @@
 -- The texts so far and what is left are all bytes.
 use Rattle.std.proofs.Common.{◌≡◌, ◌++◌, length, map, take}
 use Rattle.std.specs.List.{concat}
-use Rattle.ob_answer_files.proofs.texts.texts_in.Given as goal
+use Rattle.ob_answer_files.proofs.joined_texts.texts_in.Given as goal
 
 abbrev pub invariant-loop-length : goal.invariant-loop-length
 invariant-loop-length l = record {

@@ -5,7 +5,7 @@ use Rattle.ob_store.specs.View.{state_of}
 use Rattle.ob_store.specs.declared.state.State.{State}
 use Rattle.ob_text_record.specs.Variables.{state_text}
 use Rattle.wf_whole_outcomes.proofs.Reading.{both_more}
-use Rattle.ob_answer_searches.proofs.rows.end_texts.Goals as goal
+use Rattle.ob_answer_searches.proofs.reply_lines.end_texts.Goals as goal
 
 pub loop-state-preserved : goal.loop-state-preserved
 loop-state-preserved c =

@@ -5,7 +5,7 @@ use Rattle.std.specs.Option.{ForSome}
 use Rattle.ob_answer_searches.proofs.Made.{none_right, one_longer, one_right}
 use Rattle.ob_answer_searches.specs.RowTexts.{row_in}
 use Rattle.ob_answer_searches.specs.WholeLines.{row_lines}
-use Rattle.ob_answer_searches.proofs.rows.process_texts.Goals as goal
+use Rattle.ob_answer_searches.proofs.reply_lines.process_texts.Goals as goal
 
 pub loop-number-init : goal.loop-number-init
 loop-number-init c = record {

@@ -1,7 +1,7 @@
 -- The lists so far.
 use Rattle.std.proofs.Common.{◌≡◌, length}
 use Rattle.ob_answer_searches.specs.RowTexts.{AreProcessTexts}
-use Rattle.ob_answer_searches.proofs.rows.process_texts.Given as goal
+use Rattle.ob_answer_searches.proofs.reply_lines.process_texts.Given as goal
 
 abbrev pub invariant-loop-number : goal.invariant-loop-number
 invariant-loop-number l = record {

@@ -8,7 +8,7 @@ use Rattle.std.specs.Option.{option_copied}
 use Rattle.ob_interface.specs.Call.{Reply}
 use Rattle.wf_history.specs.View.{kept_reply}
 use Rattle.wf_history.specs.declared.kept.KeptReply.{KeptReply}
-use Rattle.ob_answer_searches.proofs.rows.push_known.Goals as goal
+use Rattle.ob_answer_searches.proofs.reply_lines.push_known.Goals as goal
 
 abbrev reply_at : Bor KeptReply → Reply
 reply_at reply = kept_reply reply.now

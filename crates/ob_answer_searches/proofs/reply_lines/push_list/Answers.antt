@@ -12,7 +12,7 @@ use Rattle.wf_history.specs.View.{kept_reply}
 use Rattle.wf_history.specs.declared.kept.KeptReply.{KeptReply}
 use Rattle.wf_whole_outcomes.specs.Nodes.{lists_in}
 use Rattle.wf_whole_outcomes.specs.View.{replies_of}
-use Rattle.ob_answer_searches.proofs.rows.push_list.Goals as goal
+use Rattle.ob_answer_searches.proofs.reply_lines.push_list.Goals as goal
 
 abbrev reply_at : Bor KeptReply → Reply
 reply_at reply = kept_reply reply.now

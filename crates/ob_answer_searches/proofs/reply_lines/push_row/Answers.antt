@@ -7,7 +7,7 @@ use Rattle.ob_interface.specs.Call.{Reply}
 use Rattle.ob_text_words.specs.ReplyLines.{reply_line}
 use Rattle.wf_history.specs.View.{kept_reply}
 use Rattle.wf_history.specs.declared.kept.KeptReply.{KeptReply}
-use Rattle.ob_answer_searches.proofs.rows.push_row.Goals as goal
+use Rattle.ob_answer_searches.proofs.reply_lines.push_row.Goals as goal
 
 abbrev reply_at : Bor KeptReply → Reply
 reply_at reply = kept_reply reply.now

@@ -2,7 +2,7 @@
 use Rattle.std.proofs.Common.{◌≡◌, ◌++◌, drop, map, string_bytes}
 use Rattle.ob_answer_searches.specs.WholeLines.{row_lines}
 use Rattle.wf_history.specs.View.{kept_reply}
-use Rattle.ob_answer_searches.proofs.rows.push_row.Given as goal
+use Rattle.ob_answer_searches.proofs.reply_lines.push_row.Given as goal
 
 abbrev pub invariant-loop-made : goal.invariant-loop-made
 invariant-loop-made l =

@@ -3,7 +3,7 @@ use Rattle.std.proofs.Common.{map}
 use Rattle.std.specs.List.{slice_get}
 use Rattle.ob_answer_searches.proofs.Made.{one_kept}
 use Rattle.wf_history.specs.View.{kept_reply}
-use Rattle.ob_answer_searches.proofs.rows.replies_in.Goals as goal
+use Rattle.ob_answer_searches.proofs.reply_lines.replies_in.Goals as goal
 
 pub loop-number-preserved : goal.loop-number-preserved
 loop-number-preserved c =

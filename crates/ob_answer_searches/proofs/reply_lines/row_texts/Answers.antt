@@ -2,7 +2,7 @@
 use Rattle.std.proofs.Common.{ap, length}
 use Rattle.ob_answer_searches.proofs.Made.{none_right, one_longer, one_right}
 use Rattle.ob_answer_searches.specs.RowTexts.{AreProcessTexts}
-use Rattle.ob_answer_searches.proofs.rows.row_texts.Goals as goal
+use Rattle.ob_answer_searches.proofs.reply_lines.row_texts.Goals as goal
 
 pub loop-process-init : goal.loop-process-init
 loop-process-init c = record {

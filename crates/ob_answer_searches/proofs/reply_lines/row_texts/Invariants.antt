@@ -1,7 +1,7 @@
 -- The processes so far.
 use Rattle.std.proofs.Common.{◌≡◌, length}
 use Rattle.ob_answer_searches.specs.RowTexts.{AreRowTexts}
-use Rattle.ob_answer_searches.proofs.rows.row_texts.Given as goal
+use Rattle.ob_answer_searches.proofs.reply_lines.row_texts.Given as goal
 
 abbrev pub invariant-loop-process : goal.invariant-loop-process
 invariant-loop-process l = record {

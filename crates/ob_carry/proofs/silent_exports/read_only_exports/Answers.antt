@@ -1,7 +1,7 @@
 use Rattle.ob_checked.specs.CheckedModule.{program_in}
 use Rattle.ob_carry.proofs.Exported.{told_of_slices}
 use Rattle.ob_carry.proofs.Sets.{where_ok}
-use Rattle.ob_carry.proofs.exports.read_only_exports.Goals as goal
+use Rattle.ob_carry.proofs.silent_exports.read_only_exports.Goals as goal
 
 pub returns : goal.returns
 returns c =

@@ -3,8 +3,8 @@ use Rattle.std.specs.List.{AllZip}
 use Rattle.std.proofs.lemmas.List.{take_all}
 use Rattle.ob_carry.specs.ReadOnlyExports.{SparesIf, exported}
 use Rattle.ob_carry.proofs.Exported.{ToldBelow, told_one_more, told_as_before}
-use Rattle.ob_carry.proofs.exports.told_of_exports.Goals.{then-procedure+in_ok-push, else-procedure}
-use Rattle.ob_carry.proofs.exports.told_of_exports.Goals as goal
+use Rattle.ob_carry.proofs.silent_exports.told_of_exports.Goals.{then-procedure+in_ok-push, else-procedure}
+use Rattle.ob_carry.proofs.silent_exports.told_of_exports.Goals as goal
 
 pub loop-number-preserved : goal.loop-number-preserved
 loop-number-preserved c = λ keep.

@@ -1,6 +1,6 @@
 use Rattle.ob_carry.specs.ReadOnlyExports.{AllKeep}
 use Rattle.ob_carry.proofs.Exported.{ToldBelow}
-use Rattle.ob_carry.proofs.exports.told_of_exports.Given as goal
+use Rattle.ob_carry.proofs.silent_exports.told_of_exports.Given as goal
 
 -- what is told of the exported ones so far
 abbrev pub invariant-loop-number : goal.invariant-loop-number

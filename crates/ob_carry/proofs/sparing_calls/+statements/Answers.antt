@@ -2,7 +2,7 @@ use Rattle.std.proofs.Common.{None, Some, subst}
 use Rattle.ob_checked.specs.View.{statements_in}
 use Rattle.ob_carry.specs.ReadOnly.{AllSpareModule}
 use Rattle.ob_carry.proofs.TellingValues.{told_no, told_on, told_end, told_same, told_not, told_alone, told_both, statement_joins, no_statement_left, branch_joins, no_branch_left, if_spares, while_spares, repeat_spares}
-use Rattle.ob_carry.proofs.calls.+statements.Goals as goal
+use Rattle.ob_carry.proofs.sparing_calls.+statements.Goals as goal
 
 pub branches_spare-returns-then-not-spares : goal.branches_spare-returns-then-not-spares
 branches_spare-returns-then-not-spares t c = told_no _ _ _ _ _ _ c.in_ok-spares.spares c.loop-branch.invariant c.in_ok-spares.ensures

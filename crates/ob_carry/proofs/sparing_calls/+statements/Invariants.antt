@@ -3,7 +3,7 @@ use Rattle.ob_typing.specs.Program.{no_branch}
 use Rattle.ob_checked.specs.View.{statements_in, branches_in}
 use Rattle.ob_carry.specs.ReadOnly.{AllSpareModule, BranchesSpareModule}
 use Rattle.ob_carry.proofs.TellingValues.{GoesOn}
-use Rattle.ob_carry.proofs.calls.+statements.Given as goal
+use Rattle.ob_carry.proofs.sparing_calls.+statements.Given as goal
 
 -- where the statements that are left spare the module's variables, all do
 abbrev pub invariant-statements_spare-loop-statement : goal.invariant-statements_spare-loop-statement

@@ -1,6 +1,6 @@
 use Rattle.std.proofs.Common.{◌+◌, subst, sym}
 use Rattle.ob_carry.proofs.Sets.{FoundBelow, found_more, found_all}
-use Rattle.ob_carry.proofs.calls.all_calls.Goals as goal
+use Rattle.ob_carry.proofs.sparing_calls.all_calls.Goals as goal
 
 pub loop-procedure-preserved : goal.loop-procedure-preserved
 loop-procedure-preserved c =

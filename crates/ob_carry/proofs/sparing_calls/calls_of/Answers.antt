@@ -1,7 +1,7 @@
 use Rattle.std.proofs.Common.{subst}
 use Rattle.ob_checked.specs.View.{statements_in}
 use Rattle.ob_carry.specs.ReadOnly.{AllSpareModule}
-use Rattle.ob_carry.proofs.calls.calls_of.Goals as goal
+use Rattle.ob_carry.proofs.sparing_calls.calls_of.Goals as goal
 
 pub returns-then-spares : goal.returns-then-spares
 returns-then-spares c = λ quiet h.

@@ -1,6 +1,6 @@
 use Rattle.std.proofs.Common.{◌≡◌, ◌≤◌, ◌++◌, drop, length}
 use Rattle.ob_code_correct.specs.CodeMeaning.{arguments_in}
-use Rattle.ob_code_engine.proofs.words.arguments_in.Given as goal
+use Rattle.ob_code_engine.proofs.call_words.arguments_in.Given as goal
 
 -- those so far, and those of the parameters that are left
 abbrev pub invariant-loop-parameter : goal.invariant-loop-parameter

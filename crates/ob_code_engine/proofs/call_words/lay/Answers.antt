@@ -4,7 +4,7 @@ use Rattle.std.proofs.lemmas.List.{length-map, length-take-le}
 use Rattle.ob_code_scheme.specs.Layout.{word}
 use Rattle.ob_code_correct.specs.CodeMeaning.{padded}
 use Rattle.ob_code_engine.proofs.Laid.{first_laid, set_next, words_next}
-use Rattle.ob_code_engine.proofs.words.lay.Goals as goal
+use Rattle.ob_code_engine.proofs.call_words.lay.Goals as goal
 
 pub loop-argument-init : goal.loop-argument-init
 loop-argument-init c =

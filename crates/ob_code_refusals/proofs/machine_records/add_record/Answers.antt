@@ -1,7 +1,7 @@
 -- A machine of the object is one of its program.
 use Rattle.ob_desk_serve.proofs.Closed.{is_object}
 use Rattle.ob_object_compile.specs.View.{object_in}
-use Rattle.ob_code_refusals.proofs.records.add_record.Goals as goal
+use Rattle.ob_code_refusals.proofs.machine_records.add_record.Goals as goal
 
 pub recorded-requires : goal.recorded-requires
 recorded-requires c =

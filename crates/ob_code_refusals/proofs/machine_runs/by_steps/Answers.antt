@@ -4,7 +4,7 @@ use Rattle.ob_code_correct.specs.CodeMeaning.{EngineParts}
 use Rattle.ob_code_correct.specs.Compiled.{IsFitting}
 use Rattle.ob_text_words.specs.ScriptCalls.{object_call, script_call_of}
 use Rattle.ob_text_words.specs.declared.script_call.ScriptCall.{ScriptCall}
-use Rattle.ob_code_refusals.proofs.steps.by_steps.Goals as goal
+use Rattle.ob_code_refusals.proofs.machine_runs.by_steps.Goals as goal
 
 pub submit_all-requires-clause-callers : goal.submit_all-requires-clause-callers
 submit_all-requires-clause-callers g c =

@@ -4,7 +4,7 @@ use Rattle.ob_code_engine.specs.CodeEngine.{CompiledParts}
 use Rattle.ob_code_scheme.specs.Layout.{encoded}
 use Rattle.ob_desk_serve.proofs.Closed.{lawful_opening}
 use Rattle.ob_object_compile.specs.View.{object_in}
-use Rattle.ob_code_refusals.proofs.steps.opened.Goals as goal
+use Rattle.ob_code_refusals.proofs.machine_runs.opened.Goals as goal
 
 pub new-requires : goal.new-requires
 new-requires c =

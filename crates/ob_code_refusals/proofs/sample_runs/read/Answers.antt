@@ -2,7 +2,7 @@
 use Rattle.std.proofs.Common.{refl}
 use Rattle.ob_object_compile.specs.View.{object_in}
 use Rattle.ob_object_perform.proofs.Mapped.{callers_below, fit_engine}
-use Rattle.ob_code_refusals.proofs.rows.read.Goals as goal
+use Rattle.ob_code_refusals.proofs.sample_runs.read.Goals as goal
 
 pub returns-clause-callers : goal.returns-clause-callers
 returns-clause-callers c =

@@ -1,7 +1,7 @@
 use Rattle.std.proofs.Common.{◌≡◌, length, map}
 use Rattle.std.specs.List.{list_any}
 use Rattle.std.specs.Str.{bytes_eq}
-use Rattle.ob_command.proofs.faults.is_among.Given as goal
+use Rattle.ob_command.proofs.known_faults.is_among.Given as goal
 
 abbrev pub invariant-loop-names : goal.invariant-loop-names
 invariant-loop-names l =

@@ -1,5 +1,5 @@
 use Rattle.ob_command_line.proofs.Behind.{globals, more, same}
-use Rattle.ob_command_line.proofs.lines.schedule_line.Goals as goal
+use Rattle.ob_command_line.proofs.command_words.schedule_line.Goals as goal
 
 pub returns-clause-app : goal.returns-clause-app
 returns-clause-app c =

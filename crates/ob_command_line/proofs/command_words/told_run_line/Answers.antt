@@ -1,6 +1,6 @@
 use Rattle.clap.specs.Words.{app_of}
 use Rattle.ob_command_line.proofs.Behind.{globals, more, same}
-use Rattle.ob_command_line.proofs.lines.told_run_line.Goals as goal
+use Rattle.ob_command_line.proofs.command_words.told_run_line.Goals as goal
 
 pub returns-clause-app : goal.returns-clause-app
 returns-clause-app c =

@@ -3,7 +3,7 @@ use Rattle.std.proofs.Common.{◌≡◌, ap, sym, ◌∙◌, ℕ}
 use Rattle.std.proofs.lemmas.Slice.Eq.{slice_eq-Decides}
 use Rattle.ob_interface.specs.Call.{ObjectCall}
 use Rattle.wf_history.proofs.Same.{scalar_eq, scalar_decides}
-use Rattle.ob_desk_floor.proofs.same.same_submission.Goals as goal
+use Rattle.ob_desk_floor.proofs.same_calls.same_submission.Goals as goal
 
 pub returns-clause-no : goal.returns-clause-no
 returns-clause-no c =

@@ -2,7 +2,7 @@ use Rattle.std.proofs.Common.{◌∙◌, List, get_or, ap, sym, refl, arith, ℕ
 use Rattle.std.proofs.lemmas.List.{get_or-map}
 use Rattle.ob_desk_floor.specs.Submission.{submission_of}
 use Rattle.ob_interface.specs.Call.{ObjectCall}
-use Rattle.ob_desk_floor.proofs.same.same_submissions.Goals as goal
+use Rattle.ob_desk_floor.proofs.same_calls.same_submissions.Goals as goal
 
 pub returns-then-not-same_submission-clause-no : goal.returns-then-not-same_submission-clause-no
 returns-then-not-same_submission-clause-no c =

@@ -6,7 +6,7 @@ use Rattle.ob_text_record.specs.Record.{Record, record_of}
 use Rattle.ob_object_run.specs.Recorded.{DoFit}
 use Rattle.ob_desk_serve.specs.Served.{IsLegalRecord, IsMeantRecord}
 use Rattle.wf_table.specs.declared.schedule.Turns.{Turns}
-use Rattle.ob_desk_serve.proofs.recording.record_of_machine.Goals as goal
+use Rattle.ob_desk_serve.proofs.closed_record.record_of_machine.Goals as goal
 
 pub recorded-requires : goal.recorded-requires
 recorded-requires c =

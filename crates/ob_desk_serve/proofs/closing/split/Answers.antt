@@ -2,7 +2,7 @@ use Rattle.std.proofs.Common.{Global, List, Vec, map}
 use Rattle.ob_desk_floor.specs.declared.seat.CallAnswer.{CallAnswer}
 use Rattle.ob_desk_serve.proofs.Started.{none_more, one_list_more, one_more}
 use Rattle.ob_desk_serve.specs.declared.worker.Worked.{Worked}
-use Rattle.ob_desk_serve.proofs.ending.split.Goals as goal
+use Rattle.ob_desk_serve.proofs.closing.split.Goals as goal
 
 pub loop-worker-preserved-in-Continue-branch-4 : goal.loop-worker-preserved-in-Continue-branch-4
 loop-worker-preserved-in-Continue-branch-4 c =

@@ -1,6 +1,6 @@
 use Rattle.std.proofs.Common.{◌≡◌, map}
 use Rattle.ob_desk_serve.specs.NotAllEnded.{started}
-use Rattle.ob_desk_serve.proofs.ending.split.Given as goal
+use Rattle.ob_desk_serve.proofs.closing.split.Given as goal
 
 abbrev pub invariant-loop-worker : goal.invariant-loop-worker
 invariant-loop-worker l =

@@ -9,7 +9,7 @@ use Rattle.ob_desk_serve.proofs.Submitted.{all_submitted}
 use Rattle.ob_code_scheme.specs.Layout.{encoded}
 use Rattle.ob_text_words.specs.ScriptCalls.{object_call, script_call_of}
 use Rattle.ob_text_words.specs.declared.script_call.ScriptCall.{ScriptCall}
-use Rattle.ob_desk_serve.proofs.opening.opened_desk.Goals as goal
+use Rattle.ob_desk_serve.proofs.object_desk.opened_desk.Goals as goal
 
 pub open-requires-clause-opening : goal.open-requires-clause-opening
 open-requires-clause-opening c =

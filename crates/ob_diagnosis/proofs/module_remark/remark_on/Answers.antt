@@ -6,7 +6,7 @@ use Rattle.ob_explain_names.specs.declared.known.Known.{Known}
 use Rattle.ob_explain_tokens.specs.Around.{AreTokens}
 use Rattle.ob_explain_tokens.specs.Around as Tokens
 use Rattle.ob_evidence.specs.Sites.{IsScene, Scene}
-use Rattle.ob_diagnosis.proofs.remark.remark_on.Goals as goal
+use Rattle.ob_diagnosis.proofs.module_remark.remark_on.Goals as goal
 
 pub returns : goal.returns
 returns c =

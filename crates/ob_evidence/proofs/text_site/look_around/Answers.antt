@@ -1,7 +1,7 @@
 use Rattle.std.proofs.Common.{List, refl, ap, ◌∙◌}
 use Rattle.ob_scan.specs.declared.token.Token.{Token}
 use Rattle.ob_explain_tokens.specs.Around as Tokens
-use Rattle.ob_evidence.proofs.site.look_around.Goals as goal
+use Rattle.ob_evidence.proofs.text_site.look_around.Goals as goal
 
 pub returns : goal.returns
 returns c = record {

@@ -1,6 +1,6 @@
 use Rattle.std.proofs.Common.{◌≡◌, ◌∷◌, [], refl, rules}
 use Rattle.std.proofs.lemmas.List.{nil_from_length}
-use Rattle.ob_explain_arguments.proofs.call.told_call.Goals as goal
+use Rattle.ob_explain_arguments.proofs.call_line.told_call.Goals as goal
 
 pub returns-in_default : goal.returns-in_default
 returns-in_default c =

@@ -1,5 +1,5 @@
 use Rattle.std.proofs.lemmas.Result.{IfOk-weaker}
-use Rattle.ob_explain_arguments.proofs.call.told_fit.Goals as goal
+use Rattle.ob_explain_arguments.proofs.call_line.told_fit.Goals as goal
 
 pub returns : goal.returns
 returns c =

@@ -1,5 +1,5 @@
 use Rattle.std.proofs.Common.{sym}
-use Rattle.ob_explain_arguments.proofs.call.told_for.Goals as goal
+use Rattle.ob_explain_arguments.proofs.call_line.told_for.Goals as goal
 
 pub returns-in_default : goal.returns-in_default
 returns-in_default c = rw (sym c.in_default.ensures) c.unknown_told.ensures

@@ -1,7 +1,7 @@
 -- What is left of the tokens gives the call, and there are not more commas than tokens so far.
 use Rattle.std.proofs.Common.{◌≡◌, ◌≤◌, drop, None}
 use Rattle.ob_explain_parts.specs.Parameters.{handed_at}
-use Rattle.ob_explain_parts.proofs.parameters.handed_at.Given as goal
+use Rattle.ob_explain_parts.proofs.handed_parameter.handed_at.Given as goal
 
 abbrev pub invariant-loop-token : goal.invariant-loop-token
 invariant-loop-token l =

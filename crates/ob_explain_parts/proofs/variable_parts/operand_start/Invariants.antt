@@ -1,7 +1,7 @@
 -- What is left of the tokens gives the operand, and there are not more open brackets than tokens so far.
 use Rattle.std.proofs.Common.{◌≡◌, ◌≤◌, None, drop}
 use Rattle.ob_explain_parts.specs.Parts.{operand_start}
-use Rattle.ob_explain_parts.proofs.parts.operand_start.Given as goal
+use Rattle.ob_explain_parts.proofs.variable_parts.operand_start.Given as goal
 
 abbrev pub invariant-loop-token : goal.invariant-loop-token
 invariant-loop-token l =

@@ -2,7 +2,7 @@
 use Rattle.std.proofs.Common.{◌≡◌, ◌≤◌, drop}
 use Rattle.ob_explain_parts.specs.Parts.{open_brackets, selected}
 use Rattle.ob_explain_parts.specs.declared.variable_parts.Selecting.TheVariants.{Part}
-use Rattle.ob_explain_parts.proofs.parts.selected.Given as goal
+use Rattle.ob_explain_parts.proofs.variable_parts.selected.Given as goal
 
 abbrev pub invariant-loop-token : goal.invariant-loop-token
 invariant-loop-token l =

@@ -1,7 +1,7 @@
 -- What is left of the tokens gives the name, and there are not more ENDs than tokens so far.
 use Rattle.std.proofs.Common.{◌≡◌, ◌≤◌, drop, None}
 use Rattle.ob_explain_tokens.specs.Ends.{name_of_end}
-use Rattle.ob_explain_tokens.proofs.ends.name_of_end.Given as goal
+use Rattle.ob_explain_tokens.proofs.end_names.name_of_end.Given as goal
 
 abbrev pub invariant-loop-token : goal.invariant-loop-token
 invariant-loop-token l =

@@ -4,7 +4,7 @@ use Rattle.std.proofs.lemmas.Result.{IfOk-weaker}
 use Rattle.ob_explain_words.specs.Counts.{at_least_one}
 use Rattle.ob_explain_words.specs.Scopes.{scope_of}
 use Rattle.ob_explain_words.proofs.Types.{array_there, name_there, no_deeper, record_there}
-use Rattle.ob_explain_words.proofs.listed.+types.Goals as goal
+use Rattle.ob_explain_words.proofs.type_lists.+types.Goals as goal
 
 pub type_words-returns-then-deep-eq0 : goal.type_words-returns-then-deep-eq0
 type_words-returns-then-deep-eq0 t c =

@@ -3,7 +3,7 @@ use Rattle.std.proofs.Common.{◌≡◌, ◌≤◌, ◌+◌, ◌*◌, drop}
 use Rattle.ob_explain_words.specs.Scopes.{scope_of}
 use Rattle.ob_explain_words.specs.Types.{list_words, size_of, type_words}
 use Rattle.ob_explain_words.specs.declared.type_lists.Reading.TheVariants.{Names}
-use Rattle.ob_explain_words.proofs.listed.+types.Given as goal
+use Rattle.ob_explain_words.proofs.type_lists.+types.Given as goal
 
 abbrev pub decreases-type_words : goal.decreases-type_words
 decreases-type_words l = 3 * l.deep

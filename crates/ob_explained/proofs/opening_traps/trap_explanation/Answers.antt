@@ -2,7 +2,7 @@ use Rattle.std.proofs.Common.{option_map, string_bytes}
 use Rattle.std.proofs.lemmas.Result.{IfOk-weaker}
 use Rattle.ob_checked.specs.CheckedModule.{program_in, tree_in}
 use Rattle.ob_explained.proofs.Explanations.{explained}
-use Rattle.ob_explained.proofs.opening.trap_explanation.Goals as goal
+use Rattle.ob_explained.proofs.opening_traps.trap_explanation.Goals as goal
 
 pub returns-in-Ok : goal.returns-in-Ok
 returns-in-Ok c =

@@ -2,7 +2,7 @@ use Rattle.std.proofs.Common.{◌∙◌, ap, count_by, map}
 use Rattle.ob_fault_lines.specs.Counts.{begins_with}
 use Rattle.ob_text_words.specs.Words.{lines, words}
 use Rattle.ob_fault_lines.proofs.Counted.{counts_events, letter_of_end}
-use Rattle.ob_fault_lines.proofs.counts.ended_calls.Goals as goal
+use Rattle.ob_fault_lines.proofs.call_counts.ended_calls.Goals as goal
 
 pub returns : goal.returns
 returns c =

@@ -5,7 +5,7 @@ use Rattle.std.proofs.lemmas.List.{length_push, length-map}
 use Rattle.ob_fault_lines.specs.Counts.{begins_with}
 use Rattle.ob_text_words.specs.Words.{lines, words}
 use Rattle.ob_fault_lines.proofs.Counted.{all_counted, line_read, none_more, one_more}
-use Rattle.ob_fault_lines.proofs.counts.lines_with.Goals as goal
+use Rattle.ob_fault_lines.proofs.call_counts.lines_with.Goals as goal
 
 pub loop-line-preserved-then-begins_with : goal.loop-line-preserved-then-begins_with
 loop-line-preserved-then-begins_with c =

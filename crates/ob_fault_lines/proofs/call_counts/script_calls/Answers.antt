@@ -5,7 +5,7 @@ use Rattle.std.proofs.lemmas.List.{length_push, length-map}
 use Rattle.ob_fault_lines.specs.Counts.{makes_call}
 use Rattle.ob_text_words.specs.Words.{lines, words}
 use Rattle.ob_fault_lines.proofs.Counted.{all_counted, counts_calls, line_read, none_more, one_more}
-use Rattle.ob_fault_lines.proofs.counts.script_calls.Goals as goal
+use Rattle.ob_fault_lines.proofs.call_counts.script_calls.Goals as goal
 
 pub loop-line-preserved-then-makes_call : goal.loop-line-preserved-then-makes_call
 loop-line-preserved-then-makes_call c =

@@ -5,7 +5,7 @@ use Rattle.std.proofs.lemmas.Iterator.Consumers.{nth_from_yields_List, YieldsLis
 use Rattle.ob_checked.specs.declared.program.Procedure.{Procedure}
 use Rattle.ob_checked.specs.View.{table_of}
 use Rattle.ob_mean.proofs.Exports.{export_is}
-use Rattle.ob_mean.proofs.object.export.Goals as goal
+use Rattle.ob_mean.proofs.outside_call.export.Goals as goal
 
 pub returns : goal.returns
 returns c =

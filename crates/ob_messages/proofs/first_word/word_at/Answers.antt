@@ -4,8 +4,8 @@ use Rattle.std.proofs.lemmas.Iterator.{YieldsList-from_slice}
 use Rattle.std.proofs.lemmas.Iterator.Search.{YieldsList-from_take_while}
 use Rattle.std.proofs.lemmas.Iterator.Consumers.{YieldsList-at, count_from_yields_List}
 use Rattle.ob_messages.proofs.WordLemmas.{taken_while, word_here, none_here, none_behind}
-use Rattle.ob_messages.proofs.words.word_at.Goals as goal
-use Rattle.ob_messages.proofs.words.word_at.Goals.{in_default-via-in-Some+else-is_ascii_alphabetic, in_default-via-in_default}
+use Rattle.ob_messages.proofs.first_word.word_at.Goals as goal
+use Rattle.ob_messages.proofs.first_word.word_at.Goals.{in_default-via-in-Some+else-is_ascii_alphabetic, in_default-via-in_default}
 
 pub returns-in-Some : goal.returns-in-Some
 returns-in-Some c =

@@ -3,7 +3,7 @@ use Rattle.std.proofs.lemmas.Option.{slice_get-get_or}
 use Rattle.std.specs.List.{Contains}
 use Rattle.ob_object_calls.proofs.Items.{none_at_all, none_more}
 use Rattle.ob_object_calls.proofs.SameNames.{same_false, same_true}
-use Rattle.ob_object_calls.proofs.names.place_in.Goals as goal
+use Rattle.ob_object_calls.proofs.call_names.place_in.Goals as goal
 use Rattle.wf_history.specs.declared.event.CallId.{CallId}
 
 abbrev default : CallId

@@ -8,7 +8,7 @@ use Rattle.ob_interface.specs.Call.{ObjectCall, Reply}
 use Rattle.ob_interface.specs.View.{reply_of}
 use Rattle.ob_object_compile.specs.View.{object_in}
 use Rattle.ob_object_calls.proofs.SequenceByCode.{HasReplied, asked_in, fits_code, replied_all, replied_more, replied_none}
-use Rattle.ob_object_calls.proofs.replies.replies_on.Goals as goal
+use Rattle.ob_object_calls.proofs.code_replies.replies_on.Goals as goal
 use Rattle.ob_text_words.specs.ScriptCalls.{object_call, script_call_of}
 use Rattle.ob_text_words.specs.declared.script_call.ScriptCall.{ScriptCall}
 

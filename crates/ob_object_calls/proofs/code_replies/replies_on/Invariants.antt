@@ -3,7 +3,7 @@ use Rattle.std.proofs.Common.{map}
 use Rattle.ob_interface.specs.View.{reply_of}
 use Rattle.ob_object_compile.specs.View.{object_in}
 use Rattle.ob_object_calls.proofs.SequenceByCode.{HasReplied, asked_in}
-use Rattle.ob_object_calls.proofs.replies.replies_on.Given as goal
+use Rattle.ob_object_calls.proofs.code_replies.replies_on.Given as goal
 
 abbrev pub invariant-loop-call : goal.invariant-loop-call
 invariant-loop-call l =

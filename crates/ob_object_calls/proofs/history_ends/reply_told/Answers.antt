@@ -1,7 +1,7 @@
 use Rattle.std.proofs.Common.{◌≡◌, ◌∙◌, ap, sym}
 use Rattle.ob_interface.specs.Call.{ObjectCall, Reply}
 use Rattle.ob_object_calls.proofs.SameNames.{same_false, same_true}
-use Rattle.ob_object_calls.proofs.ends.reply_told.Goals as goal
+use Rattle.ob_object_calls.proofs.history_ends.reply_told.Goals as goal
 use Rattle.wf_history.specs.History.{End, Event}
 use Rattle.wf_history.specs.View.{seen_event, seen_reply}
 use Rattle.wf_history.specs.declared.event.CallId.{CallId}

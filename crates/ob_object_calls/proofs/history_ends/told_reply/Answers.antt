@@ -3,7 +3,7 @@ use Rattle.std.proofs.lemmas.List.{length-map}
 use Rattle.ob_interface.specs.Call.{ObjectCall, Reply}
 use Rattle.ob_mean.specs.View as Interpreter
 use Rattle.ob_object_calls.proofs.Items.{item_of, none_at_all, none_more}
-use Rattle.ob_object_calls.proofs.ends.told_reply.Goals as goal
+use Rattle.ob_object_calls.proofs.history_ends.told_reply.Goals as goal
 use Rattle.wf_history.proofs.Positions.{contains_at}
 use Rattle.wf_history.specs.History.{End, Event}
 use Rattle.wf_history.specs.View.{event_of}

@@ -2,7 +2,7 @@
 use Rattle.std.proofs.Common.{◌≡◌, map}
 use Rattle.ob_interface.specs.Call.{ObjectCall, Reply}
 use Rattle.ob_object_calls.proofs.Items.{HoldsOfNone}
-use Rattle.ob_object_calls.proofs.ends.told_reply.Given as goal
+use Rattle.ob_object_calls.proofs.history_ends.told_reply.Given as goal
 use Rattle.wf_history.specs.History.{End, Event}
 use Rattle.wf_history.specs.View.{event_of}
 

@@ -2,7 +2,7 @@ use Rattle.std.proofs.Common.{map, ap, ◌∙◌}
 use Rattle.ob_mean.specs.View.{call_of}
 use Rattle.ob_text_words.specs.ScriptCalls.{object_call, script_call_of}
 use Rattle.ob_text_scripts.proofs.Copies.{filled_more}
-use Rattle.ob_object_calls.proofs.calls.object_calls.Goals as goal
+use Rattle.ob_object_calls.proofs.script_calls.object_calls.Goals as goal
 
 pub loop-call-preserved : goal.loop-call-preserved
 loop-call-preserved c =

@@ -3,7 +3,7 @@ use Rattle.std.specs.List.{list_any}
 use Rattle.ob_object_draw.specs.Forms.{begins_with}
 use Rattle.ob_text_reading.specs.RecordLines.{Line}
 use Rattle.ob_text_values_reading.specs.RecordTexts.{lines_behind}
-use Rattle.ob_object_draw.proofs.forms.has_order.Goals as goal
+use Rattle.ob_object_draw.proofs.record_form.has_order.Goals as goal
 
 pub loop-left-init : goal.loop-left-init
 loop-left-init c = refl

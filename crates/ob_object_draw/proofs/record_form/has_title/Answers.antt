@@ -5,7 +5,7 @@ use Rattle.ob_text_values_reading.proofs.SaidLines.{said_on, said_over}
 use Rattle.ob_text_values_reading.specs.Comments.{said}
 use Rattle.ob_text_values_reading.specs.RecordTexts.{lines_behind}
 use Rattle.ob_text_words.specs.Words.{words}
-use Rattle.ob_object_draw.proofs.forms.has_title.Goals as goal
+use Rattle.ob_object_draw.proofs.record_form.has_title.Goals as goal
 
 pub loop-left-init : goal.loop-left-init
 loop-left-init c = refl

@@ -10,7 +10,7 @@ use Rattle.ob_store.specs.View.{state_of}
 use Rattle.ob_text_reading.specs.Names.{named, named_all}
 use Rattle.wf_order.specs.Beginnings.{process_count}
 use Rattle.wf_history.specs.History.{Event}
-use Rattle.ob_object_draw.proofs.showing.shown_of.Goals as goal
+use Rattle.ob_object_draw.proofs.shown_history.shown_of.Goals as goal
 
 abbrev Events : Type 0
 Events = List (Event ObjectCall Reply)

@@ -4,7 +4,7 @@ use Rattle.ob_code_correct.specs.CodeMeaning.{code_meaning}
 use Rattle.ob_code_correct.specs.Compiled.{HasReserve, IsFitting}
 use Rattle.ob_code_correct.specs.Parts.{IsEffectOf, IsLawfulFor}
 use Rattle.wf_table.proofs.StartSound.{few_words}
-use Rattle.ob_object_perform.proofs.numbers.sizes_of.Goals as goal
+use Rattle.ob_object_perform.proofs.object_numbers.sizes_of.Goals as goal
 
 pub returns-clause-sized : goal.returns-clause-sized
 returns-clause-sized c =

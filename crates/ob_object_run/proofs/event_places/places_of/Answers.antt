@@ -3,7 +3,7 @@ use Rattle.std.proofs.Common.{◌≡◌, ℕ, sym, subst, map, take, length, ari
 use Rattle.std.proofs.lemmas.List.{length-map, length-take-le}
 use Rattle.ob_interface.specs.Call.{ObjectCall, Reply}
 use Rattle.ob_object_run.proofs.Placing.{places_more, take_item}
-use Rattle.ob_object_run.proofs.places.places_of.Goals as goal
+use Rattle.ob_object_run.proofs.event_places.places_of.Goals as goal
 use Rattle.wf_history.specs.History.{Event}
 use Rattle.ob_object_run.specs.Noted.{noted_in}
 use Rattle.ob_object_run.specs.Places.{ArePlaces, begin_noted, end_noted}

@@ -3,7 +3,7 @@ use Rattle.std.proofs.Common.{map}
 use Rattle.std.proofs.lemmas.Option.{MatchOption-at_none}
 use Rattle.ob_object_run.proofs.Arranging.{none_early, first_early}
 use Rattle.ob_object_run.proofs.Placing.{ids_of}
-use Rattle.ob_object_run.proofs.order.arranged.Goals as goal
+use Rattle.ob_object_run.proofs.order_checker.arranged.Goals as goal
 use Rattle.ob_object_run.specs.OrderFaults.{IsNowhere, EndsUnlisted, IsFirstUnlisted}
 use Rattle.ob_object_run.specs.PlacedCalls.{placed_all}
 use Rattle.wf_history.specs.View.{event_of}

@@ -2,7 +2,7 @@
 use Rattle.std.proofs.Common.{◌≡◌, ℕ, refl, subst, sym}
 use Rattle.std.proofs.lemmas.Result.{err_from_is_err_and}
 use Rattle.ob_checked.specs.CheckedModule.{program_in}
-use Rattle.ob_object_run.proofs.order.check_order.Goals as goal
+use Rattle.ob_object_run.proofs.order_checker.check_order.Goals as goal
 use Rattle.ob_object_run.specs.Interpreting.{IsAt}
 use Rattle.ob_object_run.specs.LegalOrder.{IsLegalOrder}
 use Rattle.ob_meaning.specs.ByPositionStore.{Activation}

@@ -3,7 +3,7 @@ use Rattle.std.proofs.Common.{subst, map, length, List, ℕ, sym}
 use Rattle.std.proofs.lemmas.Result.{err_from_is_err_and, IfErr-weaker, IfOk-from_err, on_ok_weaker}
 use Rattle.ob_interface.specs.Call.{ObjectCall, Reply}
 use Rattle.ob_object_run.proofs.Faults.{accepted_of, arranged_legal, err_weaker, exact_of, list_fault, replay_fault}
-use Rattle.ob_object_run.proofs.order.check_order_by.Goals as goal
+use Rattle.ob_object_run.proofs.order_checker.check_order_by.Goals as goal
 use Rattle.ob_object_run.specs.InTurn.{FailsBy, StopsAt, TakesBegun}
 use Rattle.ob_object_run.specs.LegalOrder.{CallEnds}
 use Rattle.ob_object_run.specs.OrderFaults.{IsListFault, IsArranged, LeadsTo, IsReplayFault}

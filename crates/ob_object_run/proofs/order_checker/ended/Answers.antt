@@ -1,5 +1,5 @@
 use Rattle.std.proofs.Common.{ap, sym, ◌∙◌}
-use Rattle.ob_object_run.proofs.order.ended.Goals as goal
+use Rattle.ob_object_run.proofs.order_checker.ended.Goals as goal
 use Rattle.wf_history.specs.View.{seen_event, seen_reply}
 
 pub returns-in-End : goal.returns-in-End

@@ -3,8 +3,8 @@ use Rattle.std.proofs.Common.{◌≡◌, sym, ap, map, length, arith, ◌<◌, �
 use Rattle.std.proofs.lemmas.List.{length-map}
 use Rattle.ob_object_run.proofs.Placing.{item_of, nowhere_more, nowhere_all}
 use Rattle.ob_object_run.proofs.Arranging.{no_end, end_listed}
-use Rattle.ob_object_run.proofs.order.first_missing.Goals as goal
-use Rattle.ob_object_run.proofs.order.first_missing.Goals.{in_default-via-in-None-1, in_default-via-in-Some+else-is_none}
+use Rattle.ob_object_run.proofs.order_checker.first_missing.Goals as goal
+use Rattle.ob_object_run.proofs.order_checker.first_missing.Goals.{in_default-via-in-None-1, in_default-via-in-Some+else-is_none}
 use Rattle.wf_history.specs.declared.event.CallId.{CallId}
 use Rattle.wf_history.specs.History.{End}
 use Rattle.ob_interface.specs.Call.{Reply}

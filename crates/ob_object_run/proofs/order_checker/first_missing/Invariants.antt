@@ -2,7 +2,7 @@
 use Rattle.std.proofs.Common.{◌≡◌, ℕ, ◌<◌, ◌↔◌, List, map, Some}
 use Rattle.std.specs.Prelude.{slice_get, IsSome, Contains}
 use Rattle.ob_interface.specs.Call.{ObjectCall, Reply}
-use Rattle.ob_object_run.proofs.order.first_missing.Given as goal
+use Rattle.ob_object_run.proofs.order_checker.first_missing.Given as goal
 use Rattle.wf_history.specs.History.{Event}
 use Rattle.wf_history.specs.declared.event.CallId.{CallId}
 use Rattle.ob_object_run.specs.Noted.{noted_in}

@@ -2,8 +2,8 @@
 use Rattle.std.proofs.Common.{◌≡◌, ℕ, subst, sym, ◌+◌, ◌-◌, ◌^◌, ◌<◌, length, get_or, arith, Option}
 use Rattle.std.proofs.lemmas.Option.{slice_get-get_or}
 use Rattle.ob_object_run.proofs.Early.{IsLeast, IsFirstFrom, first_none, least_none, least_same, least_more, first_here, first_same}
-use Rattle.ob_object_run.proofs.order.first_too_early.Goals as goal
-use Rattle.ob_object_run.proofs.order.first_too_early.Goals.{then-least-x, else-least-x}
+use Rattle.ob_object_run.proofs.order_checker.first_too_early.Goals as goal
+use Rattle.ob_object_run.proofs.order_checker.first_too_early.Goals.{then-least-x, else-least-x}
 use Rattle.wf_history.specs.declared.event.CallId.{CallId}
 use Rattle.ob_object_run.specs.PlacedCalls.{placed_all, placed_at}
 use Rattle.std.proofs.lemmas.List.{length-map}

@@ -8,7 +8,7 @@ use Rattle.std.specs.Prelude.{IsSome, Contains}
 use Rattle.ob_object_run.proofs.Noting.{names_more}
 use Rattle.ob_object_run.proofs.Placing.{begun_at, unknown_here, known_here, placed_more, nowhere_more, nowhere_all}
 use Rattle.wf_history.proofs.Positions.{take_next}
-use Rattle.ob_object_run.proofs.order.known_places.Goals as goal
+use Rattle.ob_object_run.proofs.order_checker.known_places.Goals as goal
 use Rattle.ob_object_run.specs.OrderFaults.{IsUnknown}
 use Rattle.ob_object_run.specs.Noted.{noted_in}
 use Rattle.wf_history.specs.View.{event_of}

@@ -1,7 +1,7 @@
 -- The ids so far have their places, and none of them is unknown.
 use Rattle.std.proofs.Common.{◌≡◌, ℕ, ◌<◌, map, take, Some, ◌↔◌}
 use Rattle.std.specs.Prelude.{slice_get, IsSome, Contains}
-use Rattle.ob_object_run.proofs.order.known_places.Given as goal
+use Rattle.ob_object_run.proofs.order_checker.known_places.Given as goal
 use Rattle.wf_history.specs.declared.event.CallId.{CallId}
 use Rattle.ob_object_run.specs.OrderFaults.{IsUnknown}
 use Rattle.ob_object_run.specs.Noted.{noted_in}

@@ -5,8 +5,8 @@ use Rattle.std.proofs.lemmas.Bool.{false≢true}
 use Rattle.ob_interface.specs.View.{reply_of}
 use Rattle.ob_object_run.proofs.InTurn.{Reaches, ends_so, reaches_all, reaches_more, reaches_none, takes_next}
 use Rattle.ob_object_run.proofs.Placing.{begun_here, call_of_list, ended_here, not_ended, end_at}
-use Rattle.ob_object_run.proofs.order.replay.Goals as goal
-use Rattle.ob_object_run.proofs.order.replay.Goals.{in_default-via-in-None-1, in_default-via-in-Some+else-not-is_same_reply}
+use Rattle.ob_object_run.proofs.order_checker.replay.Goals as goal
+use Rattle.ob_object_run.proofs.order_checker.replay.Goals.{in_default-via-in-None-1, in_default-via-in-Some+else-not-is_same_reply}
 use Rattle.ob_meaning.specs.ByPositionObject.{effect}
 use Rattle.wf_history.proofs.Once.{one_reply}
 use Rattle.wf_history.specs.View.{event_of, seen_call, seen_reply}

@@ -5,7 +5,7 @@ use Rattle.ob_object_search.proofs.Histories.{open_lawful, reading_lawful}
 use Rattle.ob_object_search.proofs.Recordings.{form_unsearched, open_unsearched}
 use Rattle.ob_object_calls.specs.Beginnings.{IsBeginningFault}
 use Rattle.ob_meaning.specs.ByPositionStore.{Activation}
-use Rattle.ob_object_search.proofs.recording.hear.Goals as goal
+use Rattle.ob_object_search.proofs.order_recording.hear.Goals as goal
 
 pub returns-in_err-read-clause-lawful : goal.returns-in_err-read-clause-lawful
 returns-in_err-read-clause-lawful c =

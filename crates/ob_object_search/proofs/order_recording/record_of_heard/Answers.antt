@@ -13,7 +13,7 @@ use Rattle.wf_order.specs.Beginnings.{process_count}
 use Rattle.wf_history.specs.History.{Event}
 use Rattle.wf_history.specs.Legal.{IsLegal}
 use Rattle.wf_history.specs.declared.event.CallId.{CallId}
-use Rattle.ob_object_search.proofs.recording.record_of_heard.Goals as goal
+use Rattle.ob_object_search.proofs.order_recording.record_of_heard.Goals as goal
 
 pub returns-in_default-clause-fault : goal.returns-in_default-clause-fault
 returns-in_default-clause-fault c =

@@ -3,7 +3,7 @@ use Rattle.std.proofs.lemmas.Result.{err_from_is_err_and}
 use Rattle.ob_text_record.specs.Record.{record_of}
 use Rattle.ob_object_search.proofs.Texts.{enough_in, order_in, text_lawful}
 use Rattle.ob_object_search.proofs.Recordings.{fault_by, record_by}
-use Rattle.ob_object_search.proofs.recording.record_of_text.Goals as goal
+use Rattle.ob_object_search.proofs.order_recording.record_of_text.Goals as goal
 
 pub returns-in_err-checked-clause-lawful : goal.returns-in_err-checked-clause-lawful
 returns-in_err-checked-clause-lawful c =

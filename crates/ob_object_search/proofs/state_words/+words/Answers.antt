@@ -1,6 +1,6 @@
 use Rattle.std.proofs.Common.{arith}
 use Rattle.ob_object_search.proofs.Wording.{words_more, words_parts}
-use Rattle.ob_object_search.proofs.words.+words.Goals as goal
+use Rattle.ob_object_search.proofs.state_words.+words.Goals as goal
 
 pub push_all-loop-value-preserved : goal.push_all-loop-value-preserved
 push_all-loop-value-preserved t c =

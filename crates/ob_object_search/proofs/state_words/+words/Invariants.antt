@@ -1,7 +1,7 @@
 use Rattle.std.proofs.Common.{◌≡◌, ◌++◌, take}
 use Rattle.ob_object_search.specs.Words.{parts_words}
 use Rattle.ob_store.specs.View.{values_in}
-use Rattle.ob_object_search.proofs.words.+words.Given as goal
+use Rattle.ob_object_search.proofs.state_words.+words.Given as goal
 
 -- the words of the values so far are added
 abbrev pub invariant-push_all-loop-value : goal.invariant-push_all-loop-value

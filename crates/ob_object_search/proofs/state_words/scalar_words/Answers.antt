@@ -2,7 +2,7 @@ use Rattle.std.proofs.Common.{◌<◌, ◌∙◌, ◌∷◌, [], ◌++◌, ap, �
 use Rattle.std.specs.Prelude.{pos}
 use Rattle.ob_interface.specs.declared.scalar.Scalar.TheVariants.{Int}
 use Rattle.ob_object_search.proofs.KeptStates.{get_any, words_more_of}
-use Rattle.ob_object_search.proofs.words.scalar_words.Goals as goal
+use Rattle.ob_object_search.proofs.state_words.scalar_words.Goals as goal
 
 pub loop-scalar-preserved : goal.loop-scalar-preserved
 loop-scalar-preserved c =

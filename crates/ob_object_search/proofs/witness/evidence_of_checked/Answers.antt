@@ -1,5 +1,5 @@
 use Rattle.std.proofs.lemmas.Result.{err_from_is_err_and}
-use Rattle.ob_object_search.proofs.showing.evidence_of_checked.Goals as goal
+use Rattle.ob_object_search.proofs.witness.evidence_of_checked.Goals as goal
 
 pub returns-in_err-heard-clause-fault : goal.returns-in_err-heard-clause-fault
 returns-in_err-heard-clause-fault c =

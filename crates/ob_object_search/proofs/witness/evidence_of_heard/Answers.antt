@@ -20,7 +20,7 @@ use Rattle.wf_history.specs.Legal.{IsLegal}
 use Rattle.wf_history.specs.View.{event_of}
 use Rattle.wf_order.specs.Needed.{NoneIsNeedless}
 use Rattle.wf_order.proofs.Turns.{take_whole}
-use Rattle.ob_object_search.proofs.showing.evidence_of_heard.Goals as goal
+use Rattle.ob_object_search.proofs.witness.evidence_of_heard.Goals as goal
 
 abbrev Events : Type 0
 Events = List (Event ObjectCall Reply)

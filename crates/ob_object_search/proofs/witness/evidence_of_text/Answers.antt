@@ -1,7 +1,7 @@
 use Rattle.std.proofs.lemmas.Result.{IfErr-weaker, IfOk-weaker}
 use Rattle.ob_object_search.proofs.Texts.{told_of}
 use Rattle.ob_object_search.proofs.Evident.{found_by}
-use Rattle.ob_object_search.proofs.showing.evidence_of_text.Goals as goal
+use Rattle.ob_object_search.proofs.witness.evidence_of_text.Goals as goal
 
 pub returns-clause-evidence : goal.returns-clause-evidence
 returns-clause-evidence c =

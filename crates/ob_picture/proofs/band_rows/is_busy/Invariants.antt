@@ -2,7 +2,7 @@
 use Rattle.std.proofs.Common.{◌≡◌, drop, map}
 use Rattle.ob_picture.specs.Shapes.{is_busy}
 use Rattle.ob_picture_chart.specs.ChartView.{sight_of}
-use Rattle.ob_picture.proofs.rows.is_busy.Given as goal
+use Rattle.ob_picture.proofs.band_rows.is_busy.Given as goal
 
 abbrev pub invariant-loop-index : goal.invariant-loop-index
 invariant-loop-index l =

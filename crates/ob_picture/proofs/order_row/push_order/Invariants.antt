@@ -2,7 +2,7 @@
 use Rattle.std.proofs.Common.{◌≡◌, ◌++◌, drop, string_bytes}
 use Rattle.ob_picture.specs.Shapes.{cells, order_shapes}
 use Rattle.ob_picture_chart.specs.Svg.{shapes_text}
-use Rattle.ob_picture.proofs.order.push_order.Given as goal
+use Rattle.ob_picture.proofs.order_row.push_order.Given as goal
 
 abbrev pub invariant-loop-place : goal.invariant-loop-place
 invariant-loop-place l =

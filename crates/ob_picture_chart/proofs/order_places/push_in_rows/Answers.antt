@@ -1,6 +1,6 @@
 use Rattle.std.proofs.Common.{◌<◌, refl, arith}
 use Rattle.ob_picture_chart.proofs.Rows.{rows_pushed}
-use Rattle.ob_picture_chart.proofs.places.push_in_rows.Goals as goal
+use Rattle.ob_picture_chart.proofs.order_places.push_in_rows.Goals as goal
 
 pub returns-in_ok-pushed-in-Some : goal.returns-in_ok-pushed-in-Some
 returns-in_ok-pushed-in-Some c =

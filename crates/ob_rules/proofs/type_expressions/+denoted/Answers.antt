@@ -16,7 +16,7 @@ use Rattle.ob_rules.proofs.Steps.{fails_as, fails_on, fails_past, goes_on, on_ok
 use Rattle.ob_scopes.proofs.Kept.{all_below_more}
 use Rattle.ob_scopes.proofs.Lists.{next_left}
 use Rattle.ob_rules.proofs.TypeSteps.{record_verdict, lists_first, list_step, before_end}
-use Rattle.ob_rules.proofs.types.+denoted.Goals as goal
+use Rattle.ob_rules.proofs.type_expressions.+denoted.Goals as goal
 
 pub add_list-returns-in_ok-data_type-in-Fields-clause-ok :
     goal.add_list-returns-in_ok-data_type-in-Fields-clause-ok

@@ -7,7 +7,7 @@ use Rattle.ob_scopes.specs.Names.{types_in, env_of}
 use Rattle.ob_scopes.specs.TakenNames.{taken_by}
 use Rattle.ob_rules.specs.Checking.{and_then}
 use Rattle.ob_rules.specs.CheckingTypes.{behind_fields}
-use Rattle.ob_rules.proofs.types.+denoted.Given as goal
+use Rattle.ob_rules.proofs.type_expressions.+denoted.Given as goal
 
 -- what is left completes what is done
 abbrev pub invariant-record_fields-loop-list : goal.invariant-record_fields-loop-list

@@ -9,7 +9,7 @@ use Rattle.ob_rules.specs.CheckingTypes.{fields_before}
 use Rattle.ob_scopes.proofs.Lists.{next_left}
 use Rattle.ob_scopes.proofs.Seconds.{second_none, taken_by-pushed, found_from-free}
 use Rattle.ob_rules.proofs.TypeSteps.{before_push, field_pushed}
-use Rattle.ob_rules.proofs.types.add_fields.Goals as goal
+use Rattle.ob_rules.proofs.type_expressions.add_fields.Goals as goal
 
 pub push-requires : goal.push-requires
 push-requires c =

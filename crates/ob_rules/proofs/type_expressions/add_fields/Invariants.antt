@@ -5,7 +5,7 @@ use Rattle.ob_typing.specs.Types.{second, and_all_taken, with_fields}
 use Rattle.ob_checked.specs.Types.{type_by, fields_in, is_below, all_below}
 use Rattle.ob_scopes.specs.TakenNames.{taken_by}
 use Rattle.ob_rules.specs.CheckingTypes.{fields_before}
-use Rattle.ob_rules.proofs.types.add_fields.Given as goal
+use Rattle.ob_rules.proofs.type_expressions.add_fields.Given as goal
 
 -- what is left completes what is done, and is new
 abbrev pub invariant-loop-name : goal.invariant-loop-name

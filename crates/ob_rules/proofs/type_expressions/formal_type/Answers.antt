@@ -3,7 +3,7 @@ use Rattle.ob_grammar.proofs.Exits.{passed_on}
 use Rattle.ob_scopes.specs.Names.{env_of}
 use Rattle.ob_rules.proofs.Steps.{fails_as, fails_on, fails_past, fails_when}
 use Rattle.ob_rules.proofs.TypeSteps.{formal_record}
-use Rattle.ob_rules.proofs.types.formal_type.Goals as goal
+use Rattle.ob_rules.proofs.type_expressions.formal_type.Goals as goal
 
 pub returns-in_err-record_fields-in-Record-clause-fault : goal.returns-in_err-record_fields-in-Record-clause-fault
 returns-in_err-record_fields-in-Record-clause-fault c =

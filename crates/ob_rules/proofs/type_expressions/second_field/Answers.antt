@@ -3,7 +3,7 @@ use Rattle.std.proofs.lemmas.Result.{IfOk-weaker}
 use Rattle.ob_grammar.specs.View.{name_of}
 use Rattle.ob_typing.specs.Types.{second}
 use Rattle.ob_scopes.proofs.Seconds.{taken_by-positions}
-use Rattle.ob_rules.proofs.types.second_field.Goals as goal
+use Rattle.ob_rules.proofs.type_expressions.second_field.Goals as goal
 
 pub returns-clause-second : goal.returns-clause-second
 returns-clause-second c =

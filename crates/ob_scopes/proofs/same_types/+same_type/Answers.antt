@@ -3,7 +3,7 @@ use Rattle.std.proofs.lemmas.Option.{slice_get_read}
 use Rattle.ob_checked.specs.View.{table_of}
 use Rattle.ob_checked.specs.Types.{types_of}
 use Rattle.ob_scopes.proofs.SameTypes.{same_length, field_same, other_name, other_type, field_depth, same_number_type}
-use Rattle.ob_scopes.proofs.same.+same_type.Goals as goal
+use Rattle.ob_scopes.proofs.same_types.+same_type.Goals as goal
 
 not_so : (b : Bool) → true ≡ not b → b ≡ false
 not_so true h = cc

@@ -3,7 +3,7 @@ use Rattle.ob_typing.specs.Scopes.{same_fields, depth, depth_of_fields}
 use Rattle.ob_checked.specs.Types.{type_in, types_of, fields_by}
 use Rattle.ob_checked.specs.View.{table_of}
 use Rattle.ob_scopes.proofs.SameTypes.{inner_depth}
-use Rattle.ob_scopes.proofs.same.+same_type.Given as goal
+use Rattle.ob_scopes.proofs.same_types.+same_type.Given as goal
 
 -- what stands within is less deep
 

@@ -1,6 +1,6 @@
 use Rattle.std.proofs.Common.{sym}
 use Rattle.ob_scopes.proofs.Entries.{type_of_entry, beyond_entries}
-use Rattle.ob_scopes.proofs.same.shape_in.Goals as goal
+use Rattle.ob_scopes.proofs.same_types.shape_in.Goals as goal
 
 pub returns-in-Some : goal.returns-in-Some
 returns-in-Some c = sym (type_of_entry _ _ _ c.in-Structured.is c.in-Some.ensures.table _ c.in-Some.ensures.entry)

@@ -1,7 +1,7 @@
 use Rattle.std.proofs.Common.{ap, option_map, ◌∙◌}
 use Rattle.ob_checked.specs.Types.{fields_in}
 use Rattle.ob_scopes.proofs.Fields.{typed, field_from-found}
-use Rattle.ob_scopes.proofs.parts.field_named.Goals as goal
+use Rattle.ob_scopes.proofs.type_parts.field_named.Goals as goal
 
 pub returns : goal.returns
 returns c = λ types.

@@ -1,7 +1,7 @@
 use Rattle.std.proofs.Common.{sym, ap}
 use Rattle.ob_typing.specs.Scopes as Declared
 use Rattle.ob_scopes.proofs.Entries.{entry_type, beyond_entries}
-use Rattle.ob_scopes.proofs.parts.fields_of.Goals as goal
+use Rattle.ob_scopes.proofs.type_parts.fields_of.Goals as goal
 
 pub returns-in-Record : goal.returns-in-Record
 returns-in-Record c =

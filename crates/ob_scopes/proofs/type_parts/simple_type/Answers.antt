@@ -1,7 +1,7 @@
 use Rattle.std.proofs.Common.{sym, ap}
 use Rattle.ob_scopes.specs.SimpleTypes.{simple_type}
 use Rattle.ob_scopes.proofs.Entries.{entry_not_simple, beyond_entries}
-use Rattle.ob_scopes.proofs.parts.simple_type.Goals as goal
+use Rattle.ob_scopes.proofs.type_parts.simple_type.Goals as goal
 
 pub returns-in-Some : goal.returns-in-Some
 returns-in-Some c = entry_not_simple _ _ _ c.in-Structured.is c.in-Some.ensures.table _ c.in-Some.ensures.entry

@@ -5,7 +5,7 @@ use Rattle.ob_syntax.specs.ReadFaults.{IsReadFault, in_scan, in_parse, IsWant}
 use Rattle.ob_grammar.specs.View.{module_of}
 use Rattle.ob_grammar.proofs.Exits.{passed_on}
 use Rattle.ob_syntax.proofs.ReadTexts.{raised_both, scan_wants, parse_wants, leads_by, of_text}
-use Rattle.ob_syntax.proofs.reader.read.Goals as goal
+use Rattle.ob_syntax.proofs.tree_reader.read.Goals as goal
 
 pub returns-in_err-tokens-clause-fault : goal.returns-in_err-tokens-clause-fault
 returns-in_err-tokens-clause-fault c =

@@ -1,6 +1,6 @@
 use Rattle.std.proofs.Common.{◌≡◌, ◌∷◌, codes, rules}
 use Rattle.ob_text_reading.proofs.Openers.{count_found}
-use Rattle.ob_text_reading.proofs.reader.is_count.Goals as goal
+use Rattle.ob_text_reading.proofs.line_reader.is_count.Goals as goal
 
 pub returns : goal.returns
 returns c =

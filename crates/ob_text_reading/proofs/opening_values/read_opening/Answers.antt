@@ -3,7 +3,7 @@ use Rattle.ob_carry.proofs.Fitted.{names_same}
 use Rattle.ob_carry.specs.View.{entry_of}
 use Rattle.ob_checked.specs.View.{table_of, variable_of}
 use Rattle.ob_text_reading.proofs.Opened.{fitted_opening}
-use Rattle.ob_text_reading.proofs.opening.read_opening.Goals as goal
+use Rattle.ob_text_reading.proofs.opening_values.read_opening.Goals as goal
 
 pub returns-in_default : goal.returns-in_default
 returns-in_default c = λ w h. (rw c.in_default.is at c.in_ok-field.ensures) h.entry h.says

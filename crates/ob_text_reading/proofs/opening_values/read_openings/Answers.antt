@@ -5,7 +5,7 @@ use Rattle.ob_checked.specs.View.{table_of, variable_of}
 use Rattle.ob_store.specs.View.{variables_in}
 use Rattle.ob_text_reading.proofs.Opened.{no_line_left, none_opened, opened_more, opened_within, variables_in-push, wrong_line}
 use Rattle.ob_text_values_reading.specs.RecordTexts.{lines_behind}
-use Rattle.ob_text_reading.proofs.opening.read_openings.Goals as goal
+use Rattle.ob_text_reading.proofs.opening_values.read_openings.Goals as goal
 
 pub loop-variable-init : goal.loop-variable-init
 loop-variable-init c = none_opened _ _ _ (ap variables_in c.requires.empty)

@@ -1,7 +1,7 @@
 use Rattle.std.proofs.Common.{map, sym}
 use Rattle.ob_interface.specs.View.{signature_of}
 use Rattle.ob_text_words.specs.Words.{lines, words}
-use Rattle.ob_text_reading.proofs.written.take_begin.Goals as goal
+use Rattle.ob_text_reading.proofs.written_lines.take_begin.Goals as goal
 
 pub begin-requires-clause-next : goal.begin-requires-clause-next
 begin-requires-clause-next c = (c.may_begin.ensures _).0 c.if-not-may_begin.false

@@ -3,7 +3,7 @@ use Rattle.ob_interface.specs.Call.{Answers}
 use Rattle.ob_interface.specs.View.{signature_of}
 use Rattle.ob_text_words.specs.Words.{lines, words}
 use Rattle.ob_text_reading.specs.RecordLines.{done}
-use Rattle.ob_text_reading.proofs.written.take_end.Goals as goal
+use Rattle.ob_text_reading.proofs.written_lines.take_end.Goals as goal
 
 pub returns-clause-taken : goal.returns-clause-taken
 returns-clause-taken c =

@@ -1,7 +1,7 @@
 use Rattle.std.proofs.Common.{◌≡◌, ◌∷◌, rules}
 use Rattle.ob_text_reading.specs.LineReading.{applied}
 use Rattle.ob_text_reading.proofs.WrittenLines.{applied_taken, begin_taken, end_taken, more_applied}
-use Rattle.ob_text_reading.proofs.written.take_written.Goals as goal
+use Rattle.ob_text_reading.proofs.written_lines.take_written.Goals as goal
 
 pub returns-in-65-eq10-clause-taken : goal.returns-in-65-eq10-clause-taken
 returns-in-65-eq10-clause-taken c =

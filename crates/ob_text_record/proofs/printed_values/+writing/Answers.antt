@@ -7,7 +7,7 @@ use Rattle.ob_store.specs.View.{value_in, values_in}
 use Rattle.ob_text_words.proofs.Appended.{left, more, no_more, some_more}
 use Rattle.ob_text_record.proofs.Texts.{element_step, field_step, text_of_array, text_of_record}
 use Rattle.ob_text_record.specs.Values.{value_text}
-use Rattle.ob_text_record.proofs.values.+writing.Goals as goal
+use Rattle.ob_text_record.proofs.printed_values.+writing.Goals as goal
 
 pub push_array-loop-position-preserved : goal.push_array-loop-position-preserved
 push_array-loop-position-preserved n c =

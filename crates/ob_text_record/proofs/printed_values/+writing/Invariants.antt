@@ -4,7 +4,7 @@ use Rattle.ob_checked.specs.View.{table_of}
 use Rattle.ob_store.specs.View.{values_in}
 use Rattle.ob_text_words.specs.Appending.{GoesOn}
 use Rattle.ob_text_record.specs.Values.{elements_text, fields_text}
-use Rattle.ob_text_record.proofs.values.+writing.Given as goal
+use Rattle.ob_text_record.proofs.printed_values.+writing.Given as goal
 
 -- the text so far, and that of the elements that are left
 abbrev pub invariant-push_array-loop-position : goal.invariant-push_array-loop-position

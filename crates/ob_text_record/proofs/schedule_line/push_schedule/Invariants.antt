@@ -2,7 +2,7 @@
 use Rattle.std.proofs.Common.{◌≡◌, ◌++◌, codes, take, string_bytes}
 use Rattle.std.specs.List.{flat_map}
 use Rattle.ob_text_record.specs.RecordText.{turns_text}
-use Rattle.ob_text_record.proofs.schedule.push_schedule.Given as goal
+use Rattle.ob_text_record.proofs.schedule_line.push_schedule.Given as goal
 
 abbrev pub invariant-loop-turns : goal.invariant-loop-turns
 invariant-loop-turns l =

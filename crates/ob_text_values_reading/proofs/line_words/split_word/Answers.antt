@@ -1,7 +1,7 @@
 use Rattle.std.proofs.Common.{◌+◌, ◌∙◌, sym}
 use Rattle.std.proofs.lemmas.List.{take_rest}
 use Rattle.ob_text_values_reading.proofs.WordsTaken.{nothing_left, word_to, word_whole}
-use Rattle.ob_text_values_reading.proofs.words.split_word.Goals as goal
+use Rattle.ob_text_values_reading.proofs.line_words.split_word.Goals as goal
 
 pub returns-in-Some-clause-words : goal.returns-in-Some-clause-words
 returns-in-Some-clause-words c =

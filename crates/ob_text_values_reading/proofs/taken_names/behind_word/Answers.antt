@@ -2,7 +2,7 @@ use Rattle.std.proofs.Common.{◌≡◌, ◌∷◌, ◌∙◌, [], true, sym, ru
 use Rattle.std.proofs.lemmas.List.{nil_from_length}
 use Rattle.ob_text_words.specs.Words.{is_blank}
 use Rattle.ob_text_values_reading.specs.LineBeginnings.{at_blank, at_end}
-use Rattle.ob_text_values_reading.proofs.taking.behind_word.Goals as goal
+use Rattle.ob_text_values_reading.proofs.taken_names.behind_word.Goals as goal
 
 pub returns-in_default : goal.returns-in_default
 returns-in_default c = let none : c.args.text.now ≡ [] = nil_from_length _ c.in_default.ensures.cases in rw none at_end

@@ -1,5 +1,5 @@
 use Rattle.ob_text_values_reading.proofs.WrittenWords.{short_taken}
-use Rattle.ob_text_values_reading.proofs.taking.take_short_id.Goals as goal
+use Rattle.ob_text_values_reading.proofs.taken_names.take_short_id.Goals as goal
 
 pub returns-clause-taken : goal.returns-clause-taken
 returns-clause-taken c = (short_taken _ _ _ _ _ c.in_ok-id.ensures c.in_ok-rest.ensures).0

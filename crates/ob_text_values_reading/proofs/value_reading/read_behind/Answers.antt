@@ -3,7 +3,7 @@ use Rattle.ob_carry.specs.View.{entry_of}
 use Rattle.ob_text_values_reading.proofs.Indexing.{indexed_none}
 use Rattle.ob_text_values_reading.proofs.VariableLines.{none_read, number_within, one_line_more}
 use Rattle.ob_text_values_reading.specs.RecordTexts.{lines_behind}
-use Rattle.ob_text_values_reading.proofs.reading.read_behind.Goals as goal
+use Rattle.ob_text_values_reading.proofs.value_reading.read_behind.Goals as goal
 
 pub loop-left-init : goal.loop-left-init
 loop-left-init c = record { read = none_read _ _ (ap (map entry_of) c.requires.empty); indexed = indexed_none _ _ (ap (map entry_of) c.requires.empty) c.new-names.ensures.empty }

@@ -4,7 +4,7 @@ use Rattle.ob_carry.specs.View.{entry_of}
 use Rattle.ob_text_values_reading.proofs.VariableLines.{ReadTo}
 use Rattle.ob_text_values_reading.specs.Indexed.{IsIndexed}
 use Rattle.ob_text_values_reading.specs.RecordTexts.{lines_behind}
-use Rattle.ob_text_values_reading.proofs.reading.read_behind.Given as goal
+use Rattle.ob_text_values_reading.proofs.value_reading.read_behind.Given as goal
 
 abbrev pub invariant-loop-left : goal.invariant-loop-left
 invariant-loop-left l =

@@ -1,6 +1,6 @@
 use Rattle.std.proofs.Common.{sym}
 use Rattle.ob_text_values_reading.proofs.VariableLines.{nothing_told}
-use Rattle.ob_text_values_reading.proofs.reading.read_kept.Goals as goal
+use Rattle.ob_text_values_reading.proofs.value_reading.read_kept.Goals as goal
 
 pub returns-in_default-clause-fault : goal.returns-in_default-clause-fault
 returns-in_default-clause-fault c = nothing_told _ (sym (rw c.in_default.is at c.in_ok-kept.ensures))

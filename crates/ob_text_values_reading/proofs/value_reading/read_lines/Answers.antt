@@ -1,7 +1,7 @@
 use Rattle.std.proofs.Common.{ap, length, arith}
 use Rattle.ob_text_values_reading.proofs.FirstLines.{few_lines}
 use Rattle.ob_text_values_reading.proofs.VariableLines.{fault_result, no_title, told_result}
-use Rattle.ob_text_values_reading.proofs.reading.read_lines.Goals as goal
+use Rattle.ob_text_values_reading.proofs.value_reading.read_lines.Goals as goal
 
 pub returns-in_default-clause-fault : goal.returns-in_default-clause-fault
 returns-in_default-clause-fault c =

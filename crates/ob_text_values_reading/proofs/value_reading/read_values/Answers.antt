@@ -2,7 +2,7 @@ use Rattle.std.proofs.Common.{◌∙◌, ap, map}
 use Rattle.ob_text_values_reading.proofs.VariableLines.{are_distinct, counted_from_one, one_list, text_fault}
 use Rattle.ob_text_values_reading.specs.Comments.{line_number}
 use Rattle.ob_text_words.specs.Words.{lines, words}
-use Rattle.ob_text_values_reading.proofs.reading.read_values.Goals as goal
+use Rattle.ob_text_values_reading.proofs.value_reading.read_values.Goals as goal
 
 pub line_number-requires : goal.line_number-requires
 line_number-requires c = counted_from_one (rw c.in-Err-Form.field-0-is at c.in-Err-Form.ensures.fault)

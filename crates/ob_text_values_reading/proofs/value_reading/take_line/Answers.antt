@@ -10,7 +10,7 @@ use Rattle.ob_text_values_reading.proofs.VariableLines.{no_next, told_twice}
 use Rattle.ob_text_values_reading.specs.Indexed.{IsIndexed}
 use Rattle.ob_text_values_reading.specs.ReadValues as Told
 use Rattle.ob_text_values_reading.specs.ReadValues.{LeadsOn}
-use Rattle.ob_text_values_reading.proofs.reading.take_line.Goals as goal
+use Rattle.ob_text_values_reading.proofs.value_reading.take_line.Goals as goal
 
 pub returns-then-not-begins_with-clause-told : goal.returns-then-not-begins_with-clause-told
 returns-then-not-begins_with-clause-told c = Told.other (λ h. false≢true (sym c.if-not-begins_with.true ∙ c.begins_with.ensures.1 h))

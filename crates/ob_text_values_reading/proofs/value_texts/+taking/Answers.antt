@@ -3,7 +3,7 @@ use Rattle.ob_meaning.specs.ByNameValue.{Value}
 use Rattle.ob_carry.proofs.Rows.{named_in-elements, named_in-fields}
 use Rattle.ob_text_values_reading.proofs.Taken.{array_taken, array_within, elements_end, fields_end, no_element, no_equal, no_field, no_field_value, no_name, none_taken, not_ended, one_element_more, one_elements_rest, one_field_more, one_fields_rest, record_taken, record_within, some_fields_found}
 use Rattle.ob_text_values_reading.specs.Taking.{Ends, TakesValue}
-use Rattle.ob_text_values_reading.proofs.texts.+taking.Goals as goal
+use Rattle.ob_text_values_reading.proofs.value_texts.+taking.Goals as goal
 
 pub take_array-returns-then-limit-eq0 : goal.take_array-returns-then-limit-eq0
 take_array-returns-then-limit-eq0 n c = λ v rest h. (array_within h).some c.if-limit-eq0.true

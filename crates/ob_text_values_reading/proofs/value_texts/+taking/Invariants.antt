@@ -1,6 +1,6 @@
 use Rattle.std.proofs.Common.{◌+◌, ◌*◌, length}
 use Rattle.ob_text_values_reading.proofs.Taken.{ElementsTo, FieldsTo}
-use Rattle.ob_text_values_reading.proofs.texts.+taking.Given as goal
+use Rattle.ob_text_values_reading.proofs.value_texts.+taking.Given as goal
 
 abbrev pub decreases-take_value : goal.decreases-take_value
 decreases-take_value l = 5 * l.limit + 4

@@ -2,7 +2,7 @@ use Rattle.std.proofs.Common.{◌≡◌, ◌∙◌, Some, None, ap, refl, sym}
 use Rattle.std.specs.Option.{option_copied}
 use Rattle.std.specs.List.{slice_get}
 use Rattle.ob_text_values_reading.proofs.Marks.{ends_at, ends_nowhere}
-use Rattle.ob_text_values_reading.proofs.texts.is_end.Goals as goal
+use Rattle.ob_text_values_reading.proofs.value_texts.is_end.Goals as goal
 
 pub returns-in-Some : goal.returns-in-Some
 returns-in-Some c =

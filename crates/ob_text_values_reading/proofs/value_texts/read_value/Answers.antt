@@ -1,6 +1,6 @@
 use Rattle.ob_text_values_reading.proofs.OneValue.{one_value_of}
 use Rattle.ob_text_values_reading.proofs.Taken.{not_whole, taken_text, whole_taken}
-use Rattle.ob_text_values_reading.proofs.texts.read_value.Goals as goal
+use Rattle.ob_text_values_reading.proofs.value_texts.read_value.Goals as goal
 
 pub returns-in_default-clause-found : goal.returns-in_default-clause-found
 returns-in_default-clause-found c = λ v h. (rw c.in_default.is at c.in_ok-value.ensures) v _ (whole_taken c.args.text.now v h)

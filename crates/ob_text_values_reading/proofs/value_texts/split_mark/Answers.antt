@@ -4,7 +4,7 @@ use Rattle.std.proofs.lemmas.Iterator.Search.{YieldsList-from_take_while}
 use Rattle.std.proofs.lemmas.Iterator.Consumers.{YieldsList-at, count_from_yields_List}
 use Rattle.ob_text_values_reading.proofs.Marks.{split_alone, split_ends}
 use Rattle.ob_text_values_reading.specs.Taking.{is_mark}
-use Rattle.ob_text_values_reading.proofs.texts.split_mark.Goals as goal
+use Rattle.ob_text_values_reading.proofs.value_texts.split_mark.Goals as goal
 
 pub returns-clause-ends : goal.returns-clause-ends
 returns-clause-ends c =

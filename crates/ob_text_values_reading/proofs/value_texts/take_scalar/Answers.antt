@@ -1,5 +1,5 @@
 use Rattle.ob_text_values_reading.proofs.Taken.{no_scalar, scalar_taken}
-use Rattle.ob_text_values_reading.proofs.texts.take_scalar.Goals as goal
+use Rattle.ob_text_values_reading.proofs.value_texts.take_scalar.Goals as goal
 
 pub returns-in_err-scalar : goal.returns-in_err-scalar
 returns-in_err-scalar c = λ limit. rw c.from_residual.ensures (no_scalar _ _ _ c.requires c.split_mark.ensures.alone c.in_err-scalar.ensures limit)

@@ -6,7 +6,7 @@ use Rattle.std.proofs.lemmas.Iterator.Consumers.{YieldsList-from_enumerate, Yiel
 use Rattle.std.proofs.lemmas.Iterator.Search.{find_from_yields_List}
 use Rattle.ob_interface.specs.declared.export.Export.{Export}
 use Rattle.ob_text_words.proofs.ExportSearch.{export_found}
-use Rattle.ob_text_words.proofs.exports.export_named.Goals as goal
+use Rattle.ob_text_words.proofs.export_names.export_named.Goals as goal
 
 pub returns : goal.returns
 returns c =

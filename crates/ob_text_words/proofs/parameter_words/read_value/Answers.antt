@@ -1,7 +1,7 @@
 use Rattle.std.proofs.Common.{rules, w32}
 use Rattle.std.proofs.lemmas.Int.{to_z-of_z}
 use Rattle.ob_text_words.specs.Values.{integer, boolean}
-use Rattle.ob_text_words.proofs.parameters.read_value.Goals as goal
+use Rattle.ob_text_words.proofs.parameter_words.read_value.Goals as goal
 use mir.Val.{SFits}
 
 pub returns-in_ok-read_integer-in-Integer : goal.returns-in_ok-read_integer-in-Integer

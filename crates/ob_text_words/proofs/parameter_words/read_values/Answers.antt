@@ -2,8 +2,8 @@ use Rattle.std.proofs.Common.{◌≤◌, ◌<◌, ◌≡◌, length, get_or, rul
 use Rattle.std.proofs.lemmas.List.{length-map}
 use Rattle.ob_text_words.proofs.Reading.{word_at}
 use Rattle.ob_text_words.proofs.ValueReading.{HasRead-none, HasRead-skip, HasRead-more, no_word, no_value, HasRead-all, left_over}
-use Rattle.ob_text_words.proofs.parameters.read_values.Goals as goal
-use Rattle.ob_text_words.proofs.parameters.read_values.Goals.{then-is_of_mode+in-Some+in-Some-read_value+in_ok-push, else-is_of_mode}
+use Rattle.ob_text_words.proofs.parameter_words.read_values.Goals as goal
+use Rattle.ob_text_words.proofs.parameter_words.read_values.Goals.{then-is_of_mode+in-Some+in-Some-read_value+in_ok-push, else-is_of_mode}
 
 pub loop-formal-init : goal.loop-formal-init
 loop-formal-init c = rw c.new-values.ensures.items (HasRead-none _ _ _)

@@ -6,7 +6,7 @@ use Rattle.std.proofs.lemmas.List.{length_push, map-append, take_all}
 use Rattle.ob_text_words.specs.Words.{Word, lines, words}
 use Rattle.ob_text_words.specs.Schedule.{is_comment, line_items}
 use Rattle.ob_text_words.proofs.LineItems.{lines_more, said, silent}
-use Rattle.ob_text_words.proofs.schedule.item_words.Goals as goal
+use Rattle.ob_text_words.proofs.schedule_texts.item_words.Goals as goal
 
 pub loop-line-preserved-in-Continue-branch-2 : goal.loop-line-preserved-in-Continue-branch-2
 loop-line-preserved-in-Continue-branch-2 c =

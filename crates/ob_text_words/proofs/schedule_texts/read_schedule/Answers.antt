@@ -1,7 +1,7 @@
 use Rattle.std.proofs.Common.{◌≡◌, ◌∙◌, ap, map, refl}
 use Rattle.ob_text_words.specs.Schedule.{item_words, none}
 use Rattle.ob_text_words.proofs.ScheduleReading.{all_items, item_more_at, no_form_at, no_process_at, one_schedule}
-use Rattle.ob_text_words.proofs.schedule.read_schedule.Goals as goal
+use Rattle.ob_text_words.proofs.schedule_texts.read_schedule.Goals as goal
 
 pub loop-index-init : goal.loop-index-init
 loop-index-init c = rw c.new-items.ensures.items none

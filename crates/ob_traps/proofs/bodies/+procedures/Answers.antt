@@ -5,7 +5,7 @@ use Rattle.ob_grammar.proofs.Rows.{declarations_of-parts}
 use Rattle.ob_traps.specs.Places.{bodies_of, bodies_in}
 use Rattle.ob_traps.specs.Bodies.{body_in}
 use Rattle.ob_traps.proofs.Found.{among_found, among_passed}
-use Rattle.ob_traps.proofs.procedures.+procedures.Goals as goal
+use Rattle.ob_traps.proofs.bodies.+procedures.Goals as goal
 
 pub body_among-returns-in-Ok-clause-found : goal.body_among-returns-in-Ok-clause-found
 body_among-returns-in-Ok-clause-found t c =

@@ -2,7 +2,7 @@ use Rattle.std.proofs.Common.{◌≡◌, ◌+◌, ◌-◌, ◌≤◌, drop, leng
 use Rattle.std.specs.Prelude.{slice_get}
 use Rattle.ob_grammar.specs.View.{procedures_in}
 use Rattle.ob_traps.specs.Places.{bodies_in}
-use Rattle.ob_traps.proofs.procedures.+procedures.Given as goal
+use Rattle.ob_traps.proofs.bodies.+procedures.Given as goal
 
 -- the body that is looked for is the same among those that are left, and those that were passed are counted
 abbrev pub invariant-body_among-loop-procedure : goal.invariant-body_among-loop-procedure

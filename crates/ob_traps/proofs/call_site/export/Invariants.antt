@@ -3,7 +3,7 @@ use Rattle.std.specs.Prelude.{filter, slice_get}
 use Rattle.ob_checked.specs.View.{procedure_of, table_of}
 use Rattle.ob_traps.specs.TrapOfCall.{export_number}
 use Rattle.ob_typing.specs.Program.{Procedure}
-use Rattle.ob_traps.proofs.object.export.Given as goal
+use Rattle.ob_traps.proofs.call_site.export.Given as goal
 
 -- the export that is looked for is the same among the procedures that are left, and so is its number
 abbrev pub invariant-loop-position : goal.invariant-loop-position

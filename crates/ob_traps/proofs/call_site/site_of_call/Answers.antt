@@ -5,7 +5,7 @@ use Rattle.ob_mean.specs.View.{call_of}
 use Rattle.ob_store.specs.View.{state_of, store_in}
 use Rattle.ob_traps.specs.Reaching.{site_of}
 use Rattle.ob_traps.proofs.CallSite.{call_sited}
-use Rattle.ob_traps.proofs.object.site_of_call.Goals as goal
+use Rattle.ob_traps.proofs.call_site.site_of_call.Goals as goal
 
 pub returns-in_ok-store-in-Some : goal.returns-in_ok-store-in-Some
 returns-in_ok-store-in-Some c =

@@ -2,7 +2,7 @@ use Rattle.std.proofs.Common.{◌≡◌, IfOk, option_map, subst}
 use Rattle.ob_meaning.specs.ByNameObject.{most_turns}
 use Rattle.ob_traps.specs.TrapOfCall as Sites
 use Rattle.ob_traps.specs.Reaching.{site_of}
-use Rattle.ob_traps.proofs.opening.site_of_opening.Goals as goal
+use Rattle.ob_traps.proofs.opening_site.site_of_opening.Goals as goal
 
 pub returns : goal.returns
 returns c =

@@ -5,7 +5,7 @@ use Rattle.ob_checked.specs.declared.program.Procedure.{Procedure}
 use Rattle.ob_layout.specs.Layout.{parts_of, frame_in}
 use Rattle.ob_code_scheme.specs.Types.{extent}
 use Rattle.ob_tree.proofs.Numbered.{words_few, pushed, none_pushed}
-use Rattle.ob_tree.proofs.procedures.push_procedure.Goals as goal
+use Rattle.ob_tree.proofs.procedure_work.push_procedure.Goals as goal
 
 pub returns-in_default : goal.returns-in_default
 returns-in_default c =

@@ -1,7 +1,7 @@
 use Rattle.ob_layout.specs.Layout.{block_in}
 use Rattle.ob_tree_tasks.specs.Tasks.{task_of}
 use Rattle.ob_tree_tasks.proofs.Giving.{room_behind}
-use Rattle.ob_tree_tasks.proofs.opening.open.Goals as goal
+use Rattle.ob_tree_tasks.proofs.silent_tasks.open.Goals as goal
 
 pub open_value-requires-clause-room : goal.open_value-requires-clause-room
 open_value-requires-clause-room c =

@@ -3,7 +3,7 @@ use Rattle.wf_table.specs.declared.process.Label.TheVariants.{Load}
 use Rattle.wf_object.specs.Progress.{AreUnmarked, IsInObject, Progress, by_rows, progress}
 use Rattle.wf_records.specs.Spending.{outside_more}
 use Rattle.wf_object.proofs.Progressing.{bit_stored, in_object_after, in_range, in_shape, plain_row, rows_join, unmarked_join, word_brought, word_unmarked}
-use Rattle.wf_object.proofs.rows.copy_words.Goals as goal
+use Rattle.wf_object.proofs.quiet_steps.copy_words.Goals as goal
 
 pub load-requires-clause-shaped : goal.load-requires-clause-shaped
 load-requires-clause-shaped g c =

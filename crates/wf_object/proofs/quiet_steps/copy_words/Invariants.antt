@@ -1,7 +1,7 @@
 use Rattle.std.proofs.Common.{◌≡◌, ◌+◌, ◌-◌, ◌≤◌}
 use Rattle.wf_object.specs.Progress.{AreUnmarked, by_rows, progress}
 use Rattle.wf_records.specs.Spending.{outside_more}
-use Rattle.wf_object.proofs.rows.copy_words.Given as goal
+use Rattle.wf_object.proofs.quiet_steps.copy_words.Given as goal
 
 -- so many rows were taken so far
 abbrev pub invariant-loop-count : goal.invariant-loop-count

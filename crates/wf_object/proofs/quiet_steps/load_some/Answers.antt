@@ -5,7 +5,7 @@ use Rattle.wf_object.specs.Blocks.{behind_loads}
 use Rattle.wf_object.specs.Progress.{progress}
 use Rattle.wf_object.proofs.Copying.{loads_unmarked, words_loaded}
 use Rattle.wf_object.proofs.Progressing.{same_progress}
-use Rattle.wf_object.proofs.rows.load_some.Goals as goal
+use Rattle.wf_object.proofs.quiet_steps.load_some.Goals as goal
 
 pub returns-clause-leads : goal.returns-clause-leads
 returns-clause-leads g c =

@@ -6,7 +6,7 @@ use Rattle.wf_table.specs.Table.{Process}
 use Rattle.wf_records.specs.Spending.{outside_more}
 use Rattle.wf_object.specs.Progress.{progress}
 use Rattle.wf_object.proofs.Copying.{saves_unmarked, words_saved}
-use Rattle.wf_object.proofs.rows.save_some.Goals as goal
+use Rattle.wf_object.proofs.quiet_steps.save_some.Goals as goal
 
 pub returns-clause-leads : goal.returns-clause-leads
 returns-clause-leads g c =

@@ -2,8 +2,8 @@ use Rattle.std.proofs.Common.{◌≡◌, ◌+◌, ap, ◌∙◌, subst, arith}
 use Rattle.wf_table.specs.declared.spent.Spent.{Spent}
 use Rattle.wf_object.specs.Progress.{AreUnmarked, Progress, by_rows, progress}
 use Rattle.wf_object.proofs.Progressing.{bit_stored, in_object_so, in_processes, in_range, in_shape, in_sizes, room_outside, rows_inside, rows_join, unmarked_join}
-use Rattle.wf_object.proofs.rows.take_many.Goals as goal
-use Rattle.wf_object.proofs.rows.take_many.Goals.{else-loop-count-test, then-loop-count-test+then-some-eq0}
+use Rattle.wf_object.proofs.quiet_steps.take_many.Goals as goal
+use Rattle.wf_object.proofs.quiet_steps.take_many.Goals.{else-loop-count-test, then-loop-count-test+then-some-eq0}
 
 pub take_some-some-requires-clause-object : goal.take_some-some-requires-clause-object
 take_some-some-requires-clause-object g c =

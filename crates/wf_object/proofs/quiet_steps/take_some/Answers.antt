@@ -8,7 +8,7 @@ use Rattle.wf_object.specs.Progress.{progress}
 use Rattle.wf_records.specs.Spending.{outside_more}
 use Rattle.wf_object.specs.Quiet.{is_unmarked}
 use Rattle.wf_object.proofs.Progressing.{in_body, one_unmarked, outside_next, plain_row, plain_row_unmarked, room_of_bodies, same_progress}
-use Rattle.wf_object.proofs.rows.take_some.Goals as goal
+use Rattle.wf_object.proofs.quiet_steps.take_some.Goals as goal
 
 pub returns-in-Body-clause-leads : goal.returns-in-Body-clause-leads
 returns-in-Body-clause-leads g c =

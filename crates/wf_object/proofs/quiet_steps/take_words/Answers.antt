@@ -1,7 +1,7 @@
 use Rattle.std.proofs.Common.{arith}
 use Rattle.wf_object.specs.Progress.{progress}
 use Rattle.wf_object.proofs.Progressing.{in_object_so, in_processes, in_range, in_shape, room_outside}
-use Rattle.wf_object.proofs.rows.take_words.Goals as goal
+use Rattle.wf_object.proofs.quiet_steps.take_words.Goals as goal
 
 pub post-requires-clause-shaped : goal.post-requires-clause-shaped
 post-requires-clause-shaped g c =

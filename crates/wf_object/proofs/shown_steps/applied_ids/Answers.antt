@@ -6,7 +6,7 @@ use Rattle.ll_cell.specs.Cell.{block_of}
 use Rattle.wf_history.specs.declared.event.CallId.{CallId}
 use Rattle.wf_table.specs.Table.{own_block, toggle_in}
 use Rattle.wf_table.specs.Object.{begun_of}
-use Rattle.wf_object.proofs.seen.applied_ids.Goals as goal
+use Rattle.wf_object.proofs.shown_steps.applied_ids.Goals as goal
 
 more : (f : ℕ → CallId) (t : ℕ → Bool) (a n j : ℕ) → a + n ≡ j → map f (filter t (range_with_len a (n + 1))) ≡ map f (filter t (range_with_len a n)) ++ cond (t j) (f j ∷ []) []
 more f t a zero j e = grind (arith, common_steps)

@@ -5,7 +5,7 @@ use Rattle.std.proofs.Common.{int_eq}
 use Rattle.ll_cell.specs.Cell.{block_of}
 use Rattle.wf_table.specs.Table.{own_block, toggle_in}
 use Rattle.wf_table.specs.Object.{begun_of}
-use Rattle.wf_object.proofs.seen.applied_ids.Given as goal
+use Rattle.wf_object.proofs.shown_steps.applied_ids.Given as goal
 
 abbrev pub invariant-loop-q : goal.invariant-loop-q
 invariant-loop-q g l =

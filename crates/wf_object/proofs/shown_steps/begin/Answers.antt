@@ -7,7 +7,7 @@ use Rattle.wf_table.specs.Table.{Process}
 use Rattle.wf_table.specs.Object.{history_after}
 use Rattle.wf_records.specs.CallsKept.{no_call}
 use Rattle.wf_object.proofs.Scripts.{began_is}
-use Rattle.wf_object.proofs.seen.begin.Goals as goal
+use Rattle.wf_object.proofs.shown_steps.begin.Goals as goal
 
 pub note_begin-requires : goal.note_begin-requires
 note_begin-requires g c =

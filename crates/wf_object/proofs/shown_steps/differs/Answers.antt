@@ -1,6 +1,6 @@
 use Rattle.std.proofs.Common.{◌+◌, ◌<◌, length, arith}
 use Rattle.wf_object.proofs.Packs.{in_block}
-use Rattle.wf_object.proofs.seen.differs.Goals as goal
+use Rattle.wf_object.proofs.shown_steps.differs.Goals as goal
 
 pub read_part-requires-clause-word : goal.read_part-requires-clause-word
 read_part-requires-clause-word c =

@@ -15,7 +15,7 @@ use Rattle.wf_object.specs.View.{answer_in}
 use Rattle.wf_object.proofs.OneStep.{stands_by, step_at, spent_at, answer_at, commit_goes_on}
 use Rattle.wf_object.proofs.QuietSteps.{only_commit}
 use Rattle.wf_object.proofs.Results.{on_ok, on_both, if_ok, on_err}
-use Rattle.wf_object.proofs.seen.show_step.Goals as goal
+use Rattle.wf_object.proofs.shown_steps.show_step.Goals as goal
 
 pub begin-requires-clause-in_turn : goal.begin-requires-clause-in_turn
 begin-requires-clause-in_turn g c =

@@ -4,7 +4,7 @@ use Rattle.std.proofs.lemmas.Slice.Eq.{slice_eq-Decides}
 use Rattle.ob_interface.specs.Call.{Answers}
 use Rattle.wf_history.specs.View.{seen_reply}
 use Rattle.wf_history.proofs.Same.{scalar_eq, scalar_decides}
-use Rattle.wf_order.proofs.replies.are_same_replies.Goals as goal
+use Rattle.wf_order.proofs.compared_replies.are_same_replies.Goals as goal
 
 pub returns-in-Done-Done : goal.returns-in-Done-Done
 returns-in-Done-Done c =

@@ -2,7 +2,7 @@
 use Rattle.std.proofs.Common.{◌≡◌, sym, ◌∙◌}
 use Rattle.std.proofs.lemmas.Slice.Eq.{slice_eq-Decides}
 use Rattle.wf_history.proofs.Same.{scalar_eq, scalar_decides}
-use Rattle.wf_order.proofs.replies.is_same_call.Goals as goal
+use Rattle.wf_order.proofs.compared_replies.is_same_call.Goals as goal
 
 pub returns-then-call-other : goal.returns-then-call-other
 returns-then-call-other c = λ t.

@@ -6,8 +6,8 @@ use Rattle.wf_order.specs.Turns.{IsFirstIn}
 use Rattle.std.specs.List.{slice_get}
 use Rattle.wf_history.proofs.Positions.{take_next}
 use Rattle.wf_order.proofs.Turning.{first_new, first_old}
-use Rattle.wf_order.proofs.turn.first_turn.Goals.{then-turn-from+then-turn-first, else-turn-from, else-turn-from-via-then-turn-from+else-turn-first, else-turn-from-via-else-turn-from}
-use Rattle.wf_order.proofs.turn.first_turn.Goals as goal
+use Rattle.wf_order.proofs.next_call.first_turn.Goals.{then-turn-from+then-turn-first, else-turn-from, else-turn-from-via-then-turn-from+else-turn-first, else-turn-from-via-else-turn-from}
+use Rattle.wf_order.proofs.next_call.first_turn.Goals as goal
 
 abbrev default : Turn
 default = record { process = 0; place = 0 }

@@ -6,8 +6,8 @@ use Rattle.wf_order.specs.declared.rows.Begun.{Begun}
 use Rattle.wf_order.specs.declared.next_call.Turn.{Turn}
 use Rattle.wf_order.specs.Turns.{AreTurns}
 use Rattle.wf_order.proofs.Turning.{turns_kept, turns_more}
-use Rattle.wf_order.proofs.turn.turns_from.Goals.{then-place-limit+then-place-from+in_ok-push, else-place-limit, else-place-limit-via-then-place-limit+else-place-from, else-place-limit-via-else-place-limit}
-use Rattle.wf_order.proofs.turn.turns_from.Goals as goal
+use Rattle.wf_order.proofs.next_call.turns_from.Goals.{then-place-limit+then-place-from+in_ok-push, else-place-limit, else-place-limit-via-then-place-limit+else-place-from, else-place-limit-via-else-place-limit}
+use Rattle.wf_order.proofs.next_call.turns_from.Goals as goal
 
 pub loop-process-preserved-in_default : goal.loop-process-preserved-in_default
 loop-process-preserved-in_default c =

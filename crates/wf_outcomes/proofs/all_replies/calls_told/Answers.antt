@@ -6,7 +6,7 @@ use Rattle.wf_history.specs.declared.event.CallId.{CallId}
 use Rattle.wf_outcomes.specs.Explored.{calls_in}
 use Rattle.wf_outcomes.proofs.OrderLists.{one_more_script}
 use Rattle.wf_outcomes.specs.OutcomeOrders.{calls_of}
-use Rattle.wf_outcomes.proofs.calls.calls_told.Goals as goal
+use Rattle.wf_outcomes.proofs.all_replies.calls_told.Goals as goal
 
 pub loop-process-preserved : goal.loop-process-preserved
 loop-process-preserved g c =

@@ -2,7 +2,7 @@ use Rattle.std.proofs.Common.{◌≡◌, map, take}
 use Rattle.wf_outcomes.specs.Explored.{calls_in}
 use Rattle.wf_outcomes.specs.OutcomeOrders.{AreCallsTold, calls_from, id_told}
 use Rattle.wf_outcomes.specs.View.{call_in}
-use Rattle.wf_outcomes.proofs.calls.calls_told.Given as goal
+use Rattle.wf_outcomes.proofs.all_replies.calls_told.Given as goal
 
 abbrev pub invariant-loop-process : goal.invariant-loop-process
 invariant-loop-process g l = record {

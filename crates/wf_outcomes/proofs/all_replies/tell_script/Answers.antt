@@ -12,7 +12,7 @@ use Rattle.wf_outcomes.proofs.OrderLists.{one_more_call}
 use Rattle.wf_outcomes.specs.OutcomeOrders.{calls_of, id_told}
 use Rattle.wf_outcomes.specs.View.{call_in}
 use Rattle.wf_outcomes.specs.declared.all_replies.ToldCall.{ToldCall}
-use Rattle.wf_outcomes.proofs.calls.tell_script.Goals as goal
+use Rattle.wf_outcomes.proofs.all_replies.tell_script.Goals as goal
 
 pub loop-made-preserved : goal.loop-made-preserved
 loop-made-preserved g c =

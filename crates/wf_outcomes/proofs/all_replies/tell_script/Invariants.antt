@@ -2,7 +2,7 @@ use Rattle.std.proofs.Common.{◌≡◌, ◌++◌, [], get_or, map, take}
 use Rattle.wf_outcomes.specs.Explored.{calls_in}
 use Rattle.wf_outcomes.specs.OutcomeOrders.{AreCallsTold, calls_of, id_told}
 use Rattle.wf_outcomes.specs.View.{call_in}
-use Rattle.wf_outcomes.proofs.calls.tell_script.Given as goal
+use Rattle.wf_outcomes.proofs.all_replies.tell_script.Given as goal
 
 abbrev pub invariant-loop-made : goal.invariant-loop-made
 invariant-loop-made g l = record {

@@ -7,7 +7,7 @@ use Rattle.ob_interface.specs.View.{reply_of}
 use Rattle.wf_outcomes.specs.declared.call_replies.Possible.{Possible}
 use Rattle.wf_outcomes.specs.Outcomes.{reply_had}
 use Rattle.wf_outcomes.specs.Possible.{had_in, reply_in}
-use Rattle.wf_outcomes.proofs.replies.add_reply.Goals as goal
+use Rattle.wf_outcomes.proofs.call_replies.add_reply.Goals as goal
 
 -- the replies, of what is kept and of what is had
 both : (items : List Possible) → map reply_had (map had_in items) ≡ map reply_in items

@@ -8,7 +8,7 @@ use Rattle.ob_interface.specs.View.{reply_of}
 use Rattle.wf_outcomes.specs.Possible.{reply_in}
 use Rattle.wf_history.proofs.Positions.{place_of, contains_at}
 use Rattle.wf_outcomes.proofs.OutcomesLists.{item_here, item_at}
-use Rattle.wf_outcomes.proofs.replies.has_reply.Goals as goal
+use Rattle.wf_outcomes.proofs.call_replies.has_reply.Goals as goal
 
 pub returns-then-is_same_reply : goal.returns-then-is_same_reply
 returns-then-is_same_reply c =

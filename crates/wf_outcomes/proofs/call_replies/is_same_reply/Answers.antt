@@ -4,7 +4,7 @@ use Rattle.std.proofs.lemmas.Slice.Eq.{slice_eq-Decides}
 use Rattle.ob_interface.specs.Call.{Answers}
 use Rattle.ob_interface.specs.View.{reply_of}
 use Rattle.wf_history.proofs.Same.{scalar_eq, scalar_decides}
-use Rattle.wf_outcomes.proofs.replies.is_same_reply.Goals as goal
+use Rattle.wf_outcomes.proofs.call_replies.is_same_reply.Goals as goal
 
 pub returns-in-Done-Done : goal.returns-in-Done-Done
 returns-in-Done-Done c =

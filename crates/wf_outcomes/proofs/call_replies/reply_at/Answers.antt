@@ -8,7 +8,7 @@ use Rattle.wf_outcomes.specs.RememberedCalls.{IsStated}
 use Rattle.wf_outcomes.specs.Outcomes.{Answers}
 use Rattle.wf_outcomes.specs.declared.seen.Stated.{Stated}
 use Rattle.wf_outcomes.proofs.Stepping.{only_reply}
-use Rattle.wf_outcomes.proofs.replies.reply_at.Goals as goal
+use Rattle.wf_outcomes.proofs.call_replies.reply_at.Goals as goal
 
 pub reply_to-requires-clause-before : goal.reply_to-requires-clause-before
 reply_to-requires-clause-before g c = subst (λ (s : Stated g.row.O-State.Denot). IsStated g.O.Object.meaning g.O.Object.words_of s) (sym c.as_ref.ensures) c.requires.words

@@ -11,7 +11,7 @@ use Rattle.wf_outcomes.proofs.Matching.{match_more, match_none}
 use Rattle.wf_outcomes.proofs.TellingOrders.{TellsEnd, ends_are, state_there}
 use Rattle.wf_outcomes.specs.View.{end_in}
 use Rattle.wf_outcomes.specs.declared.end_states.ToldEnd.{ToldEnd}
-use Rattle.wf_outcomes.proofs.ends.ends_told.Goals as goal
+use Rattle.wf_outcomes.proofs.end_states.ends_told.Goals as goal
 
 -- the place that was read is one of the places
 here : (places : List ℕ) (i place : ℕ) → i < length places → get_or places i place ≡ place → slice_get places i ≡ Some place

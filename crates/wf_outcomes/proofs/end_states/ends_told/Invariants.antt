@@ -3,7 +3,7 @@ use Rattle.wf_outcomes.specs.Explored.{all_kept, calls_in}
 use Rattle.wf_outcomes.proofs.Matching.{Match}
 use Rattle.wf_outcomes.proofs.TellingOrders.{TellsEnd}
 use Rattle.wf_outcomes.specs.View.{end_in}
-use Rattle.wf_outcomes.proofs.ends.ends_told.Given as goal
+use Rattle.wf_outcomes.proofs.end_states.ends_told.Given as goal
 
 abbrev pub invariant-loop-at : goal.invariant-loop-at
 invariant-loop-at g l =

@@ -3,8 +3,8 @@ use Rattle.ob_interface.specs.Call.{ObjectCall}
 use Rattle.wf_records.specs.declared.submitted_calls.Head.{Head}
 use Rattle.wf_records.specs.CallsKept.{no_call}
 use Rattle.wf_records.proofs.CallsKept.{start_at, start_is, stands_at, call_from}
-use Rattle.wf_records.proofs.calls.arguments_at.Goals as goal
-use Rattle.wf_records.proofs.calls.arguments_at.Goals.{then-i-eq0, else-i-eq0}
+use Rattle.wf_records.proofs.submitted_calls.arguments_at.Goals as goal
+use Rattle.wf_records.proofs.submitted_calls.arguments_at.Goals.{then-i-eq0, else-i-eq0}
 
 pub offset_bounds-arguments-start : goal.offset_bounds-arguments-start
 offset_bounds-arguments-start c =

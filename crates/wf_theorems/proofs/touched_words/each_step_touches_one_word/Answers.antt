@@ -1,6 +1,6 @@
 use Rattle.wf_theorems.proofs.Touches.{touches_one}
 use Rattle.wf_theorems.proofs.TouchesBody.{every_step}
-use Rattle.wf_theorems.proofs.words.each_step_touches_one_word.Goals as goal
+use Rattle.wf_theorems.proofs.touched_words.each_step_touches_one_word.Goals as goal
 
 pub returns-clause-rows : goal.returns-clause-rows
 returns-clause-rows g c = λ e z p q cell k outside. touches_one (g.E.Engine.meaning e) z p q q.label cell k outside

@@ -6,7 +6,7 @@ use Rattle.wf_whole_outcomes.specs.declared.layers.LayersFault.{LayersFault}
 use Rattle.wf_whole_outcomes.specs.declared.layers.LayersFault.TheVariants.{TooMany}
 use Rattle.wf_whole_outcomes.proofs.Advancing.{own_edge}
 use Rattle.wf_whole_outcomes.proofs.Fronting.{front_on, over_on}
-use Rattle.wf_whole_outcomes.proofs.search.deeper.Goals as goal
+use Rattle.wf_whole_outcomes.proofs.layers.deeper.Goals as goal
 
 pub returns-in_err-growing-clause-most : goal.returns-in_err-growing-clause-most
 returns-in_err-growing-clause-most c =

@@ -4,7 +4,7 @@ use Rattle.std.proofs.lemmas.List.{nil_from_length}
 use Rattle.indexmap.specs.IndexSet.{insert_key}
 use Rattle.wf_whole_outcomes.specs.declared.nodes.Node.{Node}
 use Rattle.wf_whole_outcomes.proofs.Noding.{node_eq}
-use Rattle.wf_whole_outcomes.proofs.search.first_layer.Goals as goal
+use Rattle.wf_whole_outcomes.proofs.layers.first_layer.Goals as goal
 
 pub returns : goal.returns
 returns c =

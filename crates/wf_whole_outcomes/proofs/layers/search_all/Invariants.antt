@@ -2,7 +2,7 @@
 use Rattle.std.proofs.Common.{◌-◌, ◌≤◌, length}
 use Rattle.wf_whole_outcomes.specs.Graph.{rows_in}
 use Rattle.wf_whole_outcomes.specs.Nodes.{IsFront}
-use Rattle.wf_whole_outcomes.proofs.search.search_all.Given as goal
+use Rattle.wf_whole_outcomes.proofs.layers.search_all.Given as goal
 
 abbrev pub invariant-loop-front : goal.invariant-loop-front
 invariant-loop-front l = record {

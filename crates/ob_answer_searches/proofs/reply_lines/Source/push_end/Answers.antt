@@ -9,7 +9,7 @@ use Rattle.ob_checked.specs.View.{program_of}
 use Rattle.ob_store.specs.View.{state_of}
 use Rattle.ob_text_record.specs.Variables.{state_text}
 use Rattle.ob_typing.specs.Program.{Variable}
-use Rattle.ob_answer_searches.proofs.rows.Source.push_end.Goals as goal
+use Rattle.ob_answer_searches.proofs.reply_lines.Source.push_end.Goals as goal
 
 -- no variable has a value
 none_said : (variables : List Variable) → state_text variables [] ≡ []

@@ -9,7 +9,7 @@ use Rattle.ob_answer_searches.specs.RowTexts.{row_in}
 use Rattle.ob_answer_searches.specs.WholeLines.{rows_lines}
 use Rattle.wf_whole_outcomes.specs.View.{told_by}
 use Rattle.wf_whole_outcomes.specs.declared.nodes.Node.{Node}
-use Rattle.ob_answer_searches.proofs.rows.Source.push_rows.Goals as goal
+use Rattle.ob_answer_searches.proofs.reply_lines.Source.push_rows.Goals as goal
 
 abbrev told_of : Node → List ℕ
 told_of node = node.told.items

@@ -3,7 +3,7 @@ use Rattle.std.proofs.Common.{refl}
 use Rattle.ob_answer_searches.proofs.Numbered.{line_next, lines_all}
 use Rattle.ob_answer_searches.specs.RowTexts.{row_in}
 use Rattle.ob_answer_searches.specs.WholeLines.{row_lines, rows_lines}
-use Rattle.ob_answer_searches.proofs.rows.Source.push_told.Goals as goal
+use Rattle.ob_answer_searches.proofs.reply_lines.Source.push_told.Goals as goal
 
 pub loop-process-preserved : goal.loop-process-preserved
 loop-process-preserved c =

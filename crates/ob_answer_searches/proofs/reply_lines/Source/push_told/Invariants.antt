@@ -2,7 +2,7 @@
 use Rattle.std.proofs.Common.{◌≡◌, ◌++◌, drop, map, string_bytes}
 use Rattle.ob_answer_searches.specs.RowTexts.{row_in}
 use Rattle.ob_answer_searches.specs.WholeLines.{rows_lines}
-use Rattle.ob_answer_searches.proofs.rows.Source.push_told.Given as goal
+use Rattle.ob_answer_searches.proofs.reply_lines.Source.push_told.Given as goal
 
 abbrev pub invariant-loop-process : goal.invariant-loop-process
 invariant-loop-process l =

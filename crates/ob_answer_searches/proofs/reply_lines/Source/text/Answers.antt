@@ -3,7 +3,7 @@ use Rattle.std.proofs.Common.{◌≡◌, ◌∙◌, ap, refl, sym, Global, List,
 use Rattle.std.proofs.lemmas.Option.{IfSome_then}
 use Rattle.std.specs.List.{slice_get}
 use Rattle.std.specs.Option.{option_copied}
-use Rattle.ob_answer_searches.proofs.rows.Source.text.Goals as goal
+use Rattle.ob_answer_searches.proofs.reply_lines.Source.text.Goals as goal
 
 pub returns : goal.returns
 returns c =

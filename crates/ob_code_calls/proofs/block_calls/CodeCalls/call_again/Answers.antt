@@ -1,5 +1,5 @@
 use Rattle.std.proofs.Common.{◌∙◌, List, ap, subst, sym}
-use Rattle.ob_code_calls.proofs.calls.CodeCalls.call_again.Goals as goal
+use Rattle.ob_code_calls.proofs.block_calls.CodeCalls.call_again.Goals as goal
 use Rattle.ob_code_calls.specs.Calls.{asked, left_by}
 use Rattle.ob_code_correct.specs.Compiled.{IsFitting}
 use Rattle.ob_code_machine.specs.Body.{Run}

@@ -4,7 +4,7 @@ use Rattle.ob_interface.specs.View.{reply_of}
 use Rattle.ob_interface.specs.declared.scalar.Scalar.{Scalar}
 use Rattle.ob_code_calls.specs.Calls.{IsMade, asked, block_behind, left_by}
 use Rattle.ob_code_calls.proofs.OnScalars.{through_returned, through_trapped}
-use Rattle.ob_code_calls.proofs.calls.CodeCalls.call_through.Goals as goal
+use Rattle.ob_code_calls.proofs.block_calls.CodeCalls.call_through.Goals as goal
 use Rattle.ob_code_correct.specs.Compiled.{IsFitting}
 
 pub make-trap-requires-clause-fits : goal.make-trap-requires-clause-fits

@@ -4,7 +4,7 @@ use Rattle.ob_code_machine.specs.Body.{Run}
 use Rattle.wf_table.specs.Meaning.{Turned, body}
 use Rattle.ob_code_calls.specs.Calls.{asked, meaning_of, paid}
 use Rattle.ob_code_calls.proofs.Ended.{ended_one, length_is, made_returned, made_trapped}
-use Rattle.ob_code_calls.proofs.calls.CodeCalls.make.Goals as goal
+use Rattle.ob_code_calls.proofs.block_calls.CodeCalls.make.Goals as goal
 
 pub run_through-turn-requires-clause-fits : goal.run_through-turn-requires-clause-fits
 run_through-turn-requires-clause-fits c = ∣ c.requires.fits ∣₁

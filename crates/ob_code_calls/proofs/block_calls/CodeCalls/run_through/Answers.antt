@@ -1,7 +1,7 @@
 use Rattle.std.proofs.Common.{◌∙◌}
 use Rattle.ob_code_calls.specs.Calls.{asked}
 use Rattle.ob_code_calls.proofs.Ended.{same_body}
-use Rattle.ob_code_calls.proofs.calls.CodeCalls.run_through.Goals as goal
+use Rattle.ob_code_calls.proofs.block_calls.CodeCalls.run_through.Goals as goal
 
 pub returns-clause-body : goal.returns-clause-body
 returns-clause-body c =

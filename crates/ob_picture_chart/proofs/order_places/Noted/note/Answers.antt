@@ -6,7 +6,7 @@ use Rattle.ob_picture_chart.proofs.Rows.{noted_by_hash, noted_in_row, nothing}
 use Rattle.ob_picture_chart.specs.Places.{in_rows}
 use Rattle.ob_picture_chart.specs.Same.{is_same}
 use Rattle.wf_history.specs.declared.event.CallId.{CallId}
-use Rattle.ob_picture_chart.proofs.places.Noted.note.Goals as goal
+use Rattle.ob_picture_chart.proofs.order_places.Noted.note.Goals as goal
 
 pub returns-then-not-is_empty : goal.returns-then-not-is_empty
 returns-then-not-is_empty c =

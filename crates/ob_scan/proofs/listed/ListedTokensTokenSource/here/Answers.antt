@@ -1,9 +1,8 @@
-use Rattle.std.proofs.Common.{◌≡◌, ◌≤◌, ℕ, List, length, Some, sym, ◌∙◌, ap, subst}
+use Rattle.std.proofs.Common.{◌≤◌, length, Some, sym, ◌∙◌, ap, subst}
 use Rattle.ob_scan.specs.Tokens.{spelling}
-use Rattle.ob_scan.specs.Lexemes.{Lexeme, lexeme, IsSpelled, lexemes}
+use Rattle.ob_scan.specs.Lexemes.{lexeme, IsSpelled, lexemes}
 use Rattle.ob_scan.proofs.TokenFacts.{token_within, lexemes_spelled}
 use Rattle.ob_scan.specs.Listed.{Listing}
-use Rattle.ob_scan.specs.Sources.{lexeme_of}
 use Rattle.ob_scan.proofs.Listings.{all_there, lexeme_there}
 use Rattle.ob_scan.proofs.listed.ListedTokensTokenSource.here.Goals as goal
 

@@ -2,7 +2,7 @@ use Rattle.ob_checked.specs.CheckedModule.{program_in}
 use Rattle.ob_text_reading.specs.HistoryContents.{heard_of}
 use Rattle.ob_text_words.specs.Words.{words}
 use Rattle.ob_text_reading.proofs.KindsLed.{found_as, read_as}
-use Rattle.ob_text_reading.proofs.reader.Reader.take_line.Goals as goal
+use Rattle.ob_text_reading.proofs.line_reader.Reader.take_line.Goals as goal
 
 pub returns-in-Title : goal.returns-in-Title
 returns-in-Title c = read_as (program_in c.args.checked.now) (heard_of c.args.self) (words c.args.line.now) _ _ c.kind_of.ensures c.in-Title.is _ c.take_title.ensures

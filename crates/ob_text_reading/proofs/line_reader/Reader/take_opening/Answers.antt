@@ -6,7 +6,7 @@ use Rattle.ob_meaning.specs.ByPositionStore.{Holds}
 use Rattle.ob_store.specs.View.{value_in, variables_in}
 use Rattle.ob_text_reading.proofs.Openers.{next_own, no_opening, with_held}
 use Rattle.ob_typing.specs.Program.{Program}
-use Rattle.ob_text_reading.proofs.reader.Reader.take_opening.Goals as goal
+use Rattle.ob_text_reading.proofs.line_reader.Reader.take_opening.Goals as goal
 
 pub returns-in_default-2 : goal.returns-in_default-2
 returns-in_default-2 c =

@@ -1,5 +1,5 @@
 use Rattle.ob_text_reading.proofs.Whole.{line_goes_on}
-use Rattle.ob_text_reading.proofs.reader.Reader.take_written.Goals as goal
+use Rattle.ob_text_reading.proofs.line_reader.Reader.take_written.Goals as goal
 
 pub returns : goal.returns
 returns c =

@@ -1,7 +1,7 @@
 use Rattle.std.proofs.Common.{◌∙◌}
 use Rattle.ob_text_reading.proofs.Growing.{begins_so, events_more, named_more}
 use Rattle.ob_text_reading.proofs.HistoryPlaces.{begins_at, few_names, grown_set, place_below}
-use Rattle.ob_text_reading.proofs.names.NamedCalls.begin.Goals as goal
+use Rattle.ob_text_reading.proofs.named_processes.NamedCalls.begin.Goals as goal
 
 pub begin-requires-clause-below : goal.begin-requires-clause-below
 begin-requires-clause-below c =

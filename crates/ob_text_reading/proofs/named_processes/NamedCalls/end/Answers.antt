@@ -2,7 +2,7 @@ use Rattle.std.proofs.Common.{◌∙◌, sym}
 use Rattle.ob_text_reading.proofs.Counting.{export_none}
 use Rattle.ob_text_reading.proofs.Growing.{ends_numbered, events_end, named_end}
 use Rattle.ob_text_reading.proofs.HistoryPlaces.{known_place}
-use Rattle.ob_text_reading.proofs.names.NamedCalls.end.Goals as goal
+use Rattle.ob_text_reading.proofs.named_processes.NamedCalls.end.Goals as goal
 
 pub returns-in_default : goal.returns-in_default
 returns-in_default c =

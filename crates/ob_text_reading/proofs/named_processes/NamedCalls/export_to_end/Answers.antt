@@ -1,6 +1,6 @@
 use Rattle.std.proofs.Common.{◌∙◌, sym}
 use Rattle.ob_text_reading.proofs.Counting.{export_as, export_none}
-use Rattle.ob_text_reading.proofs.names.NamedCalls.export_to_end.Goals as goal
+use Rattle.ob_text_reading.proofs.named_processes.NamedCalls.export_to_end.Goals as goal
 
 pub returns-in_default : goal.returns-in_default
 returns-in_default c =

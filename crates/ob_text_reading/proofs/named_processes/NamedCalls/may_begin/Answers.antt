@@ -1,6 +1,6 @@
 use Rattle.std.proofs.lemmas.Bool.{false≢true}
 use Rattle.ob_text_reading.proofs.Counting.{may_begin_as, never_begins}
-use Rattle.ob_text_reading.proofs.names.NamedCalls.may_begin.Goals as goal
+use Rattle.ob_text_reading.proofs.named_processes.NamedCalls.may_begin.Goals as goal
 
 pub returns-in-Some : goal.returns-in-Some
 returns-in-Some c =

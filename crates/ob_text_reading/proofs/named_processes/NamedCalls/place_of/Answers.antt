@@ -1,7 +1,7 @@
 use Rattle.std.proofs.Common.{◌∙◌, sym, arith}
 use Rattle.ob_text_reading.specs.Names.{known, new}
 use Rattle.ob_text_reading.proofs.HistoryPlaces.{known_place, unknown_place}
-use Rattle.ob_text_reading.proofs.names.NamedCalls.place_of.Goals as goal
+use Rattle.ob_text_reading.proofs.named_processes.NamedCalls.place_of.Goals as goal
 
 pub returns-in-Some : goal.returns-in-Some
 returns-in-Some c = known (known_place _ _ _ (sym c.place_known.ensures ∙ c.in-Some.is))

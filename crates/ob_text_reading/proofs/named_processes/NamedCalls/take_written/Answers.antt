@@ -3,7 +3,7 @@ use Rattle.ob_text_reading.specs.Reading.{applied}
 use Rattle.ob_text_reading.proofs.HistoryPlaces.{known_place}
 use Rattle.ob_text_reading.proofs.NamedLines.{begin_keeps, begin_taken, end_keeps, end_taken}
 use Rattle.ob_text_reading.proofs.WrittenLines.{applied_taken, more_applied, named_taken}
-use Rattle.ob_text_reading.proofs.names.NamedCalls.take_written.Goals as goal
+use Rattle.ob_text_reading.proofs.named_processes.NamedCalls.take_written.Goals as goal
 
 pub returns-in-65-eq10 : goal.returns-in-65-eq10
 returns-in-65-eq10 c =

@@ -2,7 +2,7 @@ use Rattle.std.proofs.Common.{◌≡◌, ◌++◌, ◌∷◌, [], ◌<◌, lengt
 use Rattle.wf_history.specs.History.{Begin, IsHistory}
 use Rattle.wf_history.specs.View.{kept_call}
 use Rattle.ob_text_reading.proofs.Seating.{seats_begun}
-use Rattle.ob_text_reading.proofs.calls.Calls.begin.Goals as goal
+use Rattle.ob_text_reading.proofs.process_calls.Calls.begin.Goals as goal
 
 pub push_begin-requires : goal.push_begin-requires
 push_begin-requires c = rw (← c.self.view_is) at c.requires.next

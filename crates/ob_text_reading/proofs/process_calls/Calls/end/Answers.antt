@@ -2,7 +2,7 @@ use Rattle.std.proofs.Common.{◌≡◌, ◌++◌, ◌∷◌, [], ◌<◌, lengt
 use Rattle.wf_history.specs.History.{End, IsHistory}
 use Rattle.wf_history.specs.View.{kept_reply}
 use Rattle.ob_text_reading.proofs.Seating.{seats_ended}
-use Rattle.ob_text_reading.proofs.calls.Calls.end.Goals as goal
+use Rattle.ob_text_reading.proofs.process_calls.Calls.end.Goals as goal
 
 pub push_end-requires : goal.push_end-requires
 push_end-requires c = rw (← c.self.view_is) at c.requires.next

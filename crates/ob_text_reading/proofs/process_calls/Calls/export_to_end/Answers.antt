@@ -1,6 +1,6 @@
 use Rattle.std.proofs.Common.{◌<◌, length}
 use Rattle.ob_text_reading.proofs.Seating.{not_open, open_call, seat_of}
-use Rattle.ob_text_reading.proofs.calls.Calls.export_to_end.Goals as goal
+use Rattle.ob_text_reading.proofs.process_calls.Calls.export_to_end.Goals as goal
 
 pub returns-then-seat-id : goal.returns-then-seat-id
 returns-then-seat-id c =

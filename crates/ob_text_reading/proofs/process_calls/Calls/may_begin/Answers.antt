@@ -1,7 +1,7 @@
 use Rattle.std.proofs.Common.{◌<◌, length}
 use Rattle.std.proofs.lemmas.Bool.{false≢true}
 use Rattle.ob_text_reading.proofs.Seating.{begins_idle, busy_begins, idle_begins, seat_of}
-use Rattle.ob_text_reading.proofs.calls.Calls.may_begin.Goals as goal
+use Rattle.ob_text_reading.proofs.process_calls.Calls.may_begin.Goals as goal
 
 pub returns-in-Some : goal.returns-in-Some
 returns-in-Some c =

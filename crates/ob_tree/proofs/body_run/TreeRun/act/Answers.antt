@@ -1,5 +1,5 @@
 use Rattle.ob_checked.specs.View.{program_of}
-use Rattle.ob_tree.proofs.run.TreeRun.act.Goals as goal
+use Rattle.ob_tree.proofs.body_run.TreeRun.act.Goals as goal
 
 pub returns-in-Instruction : goal.returns-in-Instruction
 returns-in-Instruction c = rw c.in-Instruction.is (c.compute.ensures (program_of c.args.program.now))

@@ -5,7 +5,7 @@ use Rattle.ob_tree_tasks.specs.Tasks.{task_of}
 use Rattle.ob_tree_tasks.specs.WorkTasks.{behind}
 use Rattle.ob_tree_law.specs.TreeEngine.{TreeRun}
 use Rattle.ob_tree.proofs.Acted.{has_first, acts_so, nothing_done}
-use Rattle.ob_tree.proofs.run.TreeRun.act_first.Goals as goal
+use Rattle.ob_tree.proofs.body_run.TreeRun.act_first.Goals as goal
 
 pub compute-requires : goal.compute-requires
 compute-requires c =

@@ -8,7 +8,7 @@ use Rattle.ob_tree_tasks.specs.Opening.{CanBeOpened}
 use Rattle.ob_tree_tasks.specs.WorkTasks.{WorkTasks}
 use Rattle.ob_tree_law.specs.TreeEngine.{TreeRun}
 use Rattle.ob_tree.proofs.Stepped.{has_room, can_open, shown_on, shown_off, step_shown}
-use Rattle.ob_tree.proofs.run.TreeRun.step.Goals as goal
+use Rattle.ob_tree.proofs.body_run.TreeRun.step.Goals as goal
 
 pub act_first-requires-clause-room : goal.act_first-requires-clause-room
 act_first-requires-clause-room c = has_room (program_of c.args.program.now) c.args.self.now c.requires.ready.ready

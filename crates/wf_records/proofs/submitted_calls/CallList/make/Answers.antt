@@ -3,7 +3,7 @@ use Rattle.ob_interface.specs.declared.scalar.Scalar.{Scalar}
 use Rattle.wf_records.specs.declared.submitted_calls.Head.{Head}
 use Rattle.wf_records.specs.CallsKept.{KeptCalls, calls_from, no_call}
 use Rattle.wf_records.proofs.CallsKept.{length-calls_from, call_is}
-use Rattle.wf_records.proofs.calls.CallList.make.Goals as goal
+use Rattle.wf_records.proofs.submitted_calls.CallList.make.Goals as goal
 
 pub index-requires : goal.index-requires
 index-requires c =

@@ -5,7 +5,7 @@ use Rattle.ob_interface.specs.Call.{ObjectCall}
 use Rattle.wf_records.specs.declared.submitted_calls.Head.{Head}
 use Rattle.wf_records.specs.CallsKept.{calls_from}
 use Rattle.wf_records.proofs.CallsKept.{pushed, well_pushed}
-use Rattle.wf_records.proofs.calls.CallList.push.Goals as goal
+use Rattle.wf_records.proofs.submitted_calls.CallList.push.Goals as goal
 
 pub invariant_of-self-2 : goal.invariant_of-self-2
 invariant_of-self-2 c =
