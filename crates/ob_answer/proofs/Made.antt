@@ -7,7 +7,7 @@ use Rattle.ob_answer_explained.specs.CommandTexts.{of_text}
 use Rattle.ob_answer_files.specs.declared.answered.Answer.{Answer}
 use Rattle.ob_answer_explained.proofs.AtOnce.{IsAtOnce, no_module, refused_of_whole, too_long_scan}
 use Rattle.ob_answer_explained.proofs.Beginnings.{beginning, of_whole_or_long}
-use Rattle.ob_check.specs.declared.checked_text.TextFault.TheVariants as Texts
+use Rattle.ob_check.specs.declared.module_text.TextFault.TheVariants as Texts
 use Rattle.ob_command.specs.CommandLine.{Text}
 use Rattle.ob_fault_lines.specs.DrawFaultLines.{draw_record_fault_line}
 use Rattle.ob_fault_lines.specs.VerifyFaultLines.{verify_fault_line}

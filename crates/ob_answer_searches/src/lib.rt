@@ -12,4 +12,4 @@ pub mod outcome_fault;
 pub mod outcomes_answers;
 mod reply_lines;
 pub mod whole_answers;
-pub mod whole_lines;
+pub mod whole_outcome_lines;

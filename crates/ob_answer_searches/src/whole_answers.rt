@@ -9,7 +9,7 @@ ghost use Rattle.ob_object_compile.specs.View.{asked_of};
 ghost use Rattle.ob_object_outcomes.specs.OutcomesView.{always_in};
 
 use crate::outcomes_answers::{Looking, bounds_of, outcomes_refused};
-use crate::whole_lines::whole_lines;
+use crate::whole_outcome_lines::whole_lines;
 use ob_answer_files::answered::Answer;
 use ob_interface::NoMemory;
 use ob_object_compile::Asked;

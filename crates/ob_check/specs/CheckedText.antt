@@ -11,8 +11,8 @@ use Rattle.ob_parser.specs.declared.parser.source.SourceFault.TheVariants as Sou
 use Rattle.ob_check.specs.ModuleText.{IsCheckFaultOf}
 use Rattle.ob_scopes.specs.declared.fault.CheckFault.{CheckFault}
 use Rattle.ob_scopes.specs.declared.fault.CheckFault.TheVariants as Check
-use Rattle.ob_check.specs.declared.checked_text.TextFault.{TextFault}
-use Rattle.ob_check.specs.declared.checked_text.TextFault.TheVariants as Faults
+use Rattle.ob_check.specs.declared.module_text.TextFault.{TextFault}
+use Rattle.ob_check.specs.declared.module_text.TextFault.TheVariants as Faults
 
 -- what each fault says of a text
 abbrev pub IsTextFault : List ℕ → TextFault → Type 0

@@ -3,14 +3,14 @@
 //! One may rely on the clauses of `check` and `checked_text`. What breaks a rule, and in which order rules are looked at, stands in ob_typing.
 #![tactic(auto)]
 
-pub mod checked_text;
 pub mod declaration_parts;
 pub mod exports;
 pub mod headings;
+pub mod module_text;
 pub mod modules;
 pub mod procedures;
 
-pub use checked_text::{TextFault, checked_text};
+pub use module_text::{TextFault, checked_text};
 pub use modules::check;
 pub use ob_checked::checked::Checked;
 pub use ob_scopes::fault::CheckFault;

@@ -6,7 +6,7 @@ ghost use Rattle.ob_evidence.specs.Words.{are_told, beyond, is_counted, is_in_pr
 
 use crate::text_site::{Site, is_kind};
 use ob_explain_tokens::parens::is_in_parens;
-use ob_explain_words::type_words::{words_of_type, words_with};
+use ob_explain_words::declared_words::{words_of_type, words_with};
 use ob_scan::Kind;
 use std::alloc::{AllocError, Global};
 

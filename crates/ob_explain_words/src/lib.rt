@@ -4,6 +4,7 @@
 //! One may rely on a nearest name being one that is declared.
 #![tactic(auto)]
 
+pub mod declared_words;
 pub mod declaring;
 pub mod distance;
 pub mod edits;
@@ -14,5 +15,4 @@ pub mod nearest;
 pub mod need;
 mod scope;
 mod type_lists;
-pub mod type_words;
 mod word_counts;

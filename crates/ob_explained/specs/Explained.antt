@@ -5,8 +5,8 @@ use Rattle.ob_messages.specs.Explanations.{explanation}
 use Rattle.ob_messages.specs.Remarks.{Remark}
 use Rattle.ob_explained.specs.NumberFaults.{budget_explanation, long_code_explanation, long_text_explanation, processes_explanation}
 use Rattle.ob_explained.specs.CallRemarks.{IsScriptRemark}
-use Rattle.ob_check.specs.declared.checked_text.TextFault.{TextFault}
-use Rattle.ob_check.specs.declared.checked_text.TextFault.TheVariants as Texts
+use Rattle.ob_check.specs.declared.module_text.TextFault.{TextFault}
+use Rattle.ob_check.specs.declared.module_text.TextFault.TheVariants as Texts
 use Rattle.ob_slips.specs.Behind.{IsTold, own_stage}
 use Rattle.ob_slips.specs.Remarks.{IsTextRemark}
 use Rattle.ob_object_compile.specs.declared.compiling.CompileFault.{CompileFault}

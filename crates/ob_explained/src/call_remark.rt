@@ -16,7 +16,7 @@ ghost use Rattle.ob_typing.specs.Program.{Program};
 use crate::script_place::{script_line, value_place};
 use crate::script_remark::{place_of_name, script_remark};
 use ob_check::TextFault;
-use ob_check::checked_text::checked_text;
+use ob_check::module_text::checked_text;
 use ob_explain_arguments::call_line::{Told, told_call};
 use ob_interface::export::Export;
 use ob_messages::remark::Remark;

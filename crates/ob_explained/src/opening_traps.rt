@@ -13,7 +13,7 @@ ghost use Rattle.ob_explained.specs.Openings.{IsOpenExplanation, IsTrapExplanati
 
 use crate::cause::{Runner, push_cause};
 use ob_check::TextFault;
-use ob_check::checked_text::checked_text;
+use ob_check::module_text::checked_text;
 use ob_checked::checked::Checked;
 use ob_grammar::tree::ModuleTree;
 use ob_mean::openings::OpenFault;

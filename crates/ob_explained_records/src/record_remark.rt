@@ -13,7 +13,7 @@ ghost use Rattle.ob_typing.specs.ModuleText.{IsModule};
 ghost use Rattle.ob_typing.specs.Program.{Program};
 
 use ob_check::TextFault;
-use ob_check::checked_text::checked_text;
+use ob_check::module_text::checked_text;
 use ob_checked::program::Variable;
 use ob_explain_arguments::first_line::title_sentence;
 use ob_explained::script_place::{behind_place, first_place, script_line, word_place};

@@ -15,7 +15,7 @@ ghost use Rattle.ob_traps.specs.Sequence.{sites_from};
 use crate::order_calls::order_calls;
 use crate::told_calls::Calls;
 use crate::trap_lines::{Setting, traps_told};
-use ob_check::checked_text::checked_text;
+use ob_check::module_text::checked_text;
 use ob_checked::checked::Checked;
 use ob_explained::Source;
 use ob_interface::NoMemory;

@@ -11,8 +11,8 @@ use Rattle.ob_scopes.specs.declared.fault.CheckFault.{CheckFault}
 use Rattle.ob_scopes.specs.declared.fault.CheckFault.TheVariants as Check
 use Rattle.ob_mean.specs.declared.openings.OpenFault.{OpenFault}
 use Rattle.ob_mean.specs.declared.openings.OpenFault.TheVariants as Open
-use Rattle.ob_check.specs.declared.checked_text.TextFault.{TextFault}
-use Rattle.ob_check.specs.declared.checked_text.TextFault.TheVariants as Texts
+use Rattle.ob_check.specs.declared.module_text.TextFault.{TextFault}
+use Rattle.ob_check.specs.declared.module_text.TextFault.TheVariants as Texts
 
 abbrev pub Text : Type 0
 Text = List ℕ

@@ -1,8 +1,8 @@
 -- What is found of a module's text and of a record of its program, as what is answered of both texts.
 use Rattle.std.proofs.Common.{◌≡◌, List, ℕ, Result, Ok, Err, IfErr, ◌⊎◌, inl, inr, refl, subst}
 use Rattle.ob_check.specs.CheckedText.{IsNumberedText, IsTextFault, TellsTextMemoryApart}
-use Rattle.ob_check.specs.declared.checked_text.TextFault.{TextFault}
-use Rattle.ob_check.specs.declared.checked_text.TextFault.TheVariants as Text
+use Rattle.ob_check.specs.declared.module_text.TextFault.{TextFault}
+use Rattle.ob_check.specs.declared.module_text.TextFault.TheVariants as Text
 use Rattle.ob_object_run.specs.LegalOrder.{CallEnds}
 use Rattle.ob_object_calls.proofs.VerifyCrossing.{fault_named, fault_placed, legal_named, legal_placed}
 use Rattle.ob_object_calls.proofs.Openings.{module_resolved}

@@ -3,7 +3,7 @@ use Rattle.std.proofs.Common.{◌≡◌, ℕ, List, false, None, Option, Some, s
 use Rattle.ob_meaning.specs.Resolved.{IsResolved}
 use Rattle.ob_meaning.specs.Same.{SameState}
 use Rattle.ob_check.specs.CheckedText.{IsNumberedText, TellsTextMemoryApart, is_text_memory}
-use Rattle.ob_check.specs.declared.checked_text.TextFault.{TextFault}
+use Rattle.ob_check.specs.declared.module_text.TextFault.{TextFault}
 use Rattle.ob_code_correct.proofs.Named.{names_simulate}
 use Rattle.ob_code_correct.specs.Carried.{BegunFit, Simulates}
 use Rattle.ob_code_correct.specs.Compiled.{Fits}

@@ -9,7 +9,7 @@ ghost use Rattle.ob_object_calls.specs.View.{made_of};
 use crate::beginning::beginning;
 use crate::call_outcome::{MadeCall, made_call};
 use crate::overtaking::overtaken;
-use ob_check::checked_text::{TextFault, checked_text};
+use ob_check::module_text::{TextFault, checked_text};
 use ob_checked::checked::Checked;
 use ob_interface::NoMemory;
 use ob_mean::openings::OpenFault;

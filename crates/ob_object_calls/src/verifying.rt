@@ -12,7 +12,7 @@ ghost use Rattle.ob_object_calls.specs.declared.verifying.VerifyFault.TheVariant
 
 use crate::beginning::beginning;
 use crate::coded_verifying::by_code;
-use ob_check::checked_text::{TextFault, checked_text};
+use ob_check::module_text::{TextFault, checked_text};
 use ob_checked::checked::Checked;
 use ob_code_correct::kept_laws::openings_are_states;
 use ob_code_correct::well_formed_laws::modules_are_well_formed;

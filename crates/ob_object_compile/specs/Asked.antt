@@ -1,7 +1,7 @@
 -- What object is asked for: of which module, for how many processes, with which budget, and how it begins.
 use Rattle.std.specs.Prelude.{◌≡◌, ℕ, ◌<◌, ◌≤◌, ◌⊎◌, Bool, true, false, List, length}
 use Rattle.ob_carry.specs.Carried.{Entry, IsCarried}
-use Rattle.ob_check.specs.declared.checked_text.TextFault.TheVariants as Text
+use Rattle.ob_check.specs.declared.module_text.TextFault.TheVariants as Text
 use Rattle.ob_interface.specs.Processes.{most_processes}
 use Rattle.ob_meaning.specs.ByNameObject as Named
 use Rattle.ob_meaning.specs.ByNameObject.{most_turns}

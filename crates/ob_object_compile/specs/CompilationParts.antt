@@ -4,8 +4,8 @@ use Rattle.ob_meaning.specs.Same.{SameState}
 use Rattle.ob_carry.specs.Carried.{AreCarriable, IsCarryFault, carried}
 use Rattle.ob_carry.specs.declared.carrying.CarryFault.{CarryFault}
 use Rattle.ob_carry.specs.declared.carrying.CarryFault.TheVariants as Carry
-use Rattle.ob_check.specs.declared.checked_text.TextFault.{TextFault}
-use Rattle.ob_check.specs.declared.checked_text.TextFault.TheVariants as Text
+use Rattle.ob_check.specs.declared.module_text.TextFault.{TextFault}
+use Rattle.ob_check.specs.declared.module_text.TextFault.TheVariants as Text
 use Rattle.ob_code_machine.specs.declared.fault.CodeFault.{CodeFault}
 use Rattle.ob_code_machine.specs.declared.fault.CodeFault.TheVariants as Code
 use Rattle.ob_code_scheme.specs.Scheme.{code_of}

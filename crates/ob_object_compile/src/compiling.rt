@@ -20,7 +20,7 @@ use crate::asked_object::{Asked, Beginning};
 use crate::object::Object;
 use ob_carry::carrying::{CarryFault, carry};
 use ob_carry::fields_by_name::NamedField;
-use ob_check::checked_text::{TextFault, checked_text};
+use ob_check::module_text::{TextFault, checked_text};
 use ob_checked::checked::Checked;
 use ob_code::generate;
 use ob_code_engine::CodeEngine;

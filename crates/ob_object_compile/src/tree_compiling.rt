@@ -12,7 +12,7 @@ ghost use Rattle.ob_typing.specs.Program.{Program};
 use crate::asked_object::Asked;
 use crate::compiling::{CompileFault, MOST_BUDGET, is_carried, opening_of};
 use crate::tree_object::TreeObject;
-use ob_check::checked_text::checked_text;
+use ob_check::module_text::checked_text;
 use ob_interface::MOST_PROCESSES;
 use ob_layout::Layout;
 use std::alloc::Global;

@@ -1,8 +1,8 @@
 -- With a fault that has a number the texts have no picture.
 use Rattle.std.proofs.Common.{◌≡◌, ◌≢◌, ℕ, List, Option, Some, None, length, inl, inr, refl, subst, arith}
 use Rattle.ob_check.specs.CheckedText.{IsNumberedText}
-use Rattle.ob_check.specs.declared.checked_text.TextFault.{TextFault}
-use Rattle.ob_check.specs.declared.checked_text.TextFault.TheVariants as Text
+use Rattle.ob_check.specs.declared.module_text.TextFault.{TextFault}
+use Rattle.ob_check.specs.declared.module_text.TextFault.TheVariants as Text
 use Rattle.ob_object_draw.specs.RecordPictures.{HasNoPicture, IsNumbered, IsRecordPicture, moments_of, of_picture, of_record, of_text}
 use Rattle.ob_picture_chart.specs.Charts.{begun}
 use Rattle.ob_picture_chart.specs.Faults.{IsRangeFault, MayBeShown}

@@ -2,8 +2,8 @@
 use Rattle.std.proofs.Common.{◌≡◌, ◌≢◌, ap, ℕ, List, Option, Some, None, ◌⊎◌, inl, inr, option_map, refl}
 use Rattle.std.proofs.lemmas.Bool.{both_ways}
 use Rattle.ob_check.specs.CheckedText.{IsNumberedText, is_text_memory}
-use Rattle.ob_check.specs.declared.checked_text.TextFault.{TextFault}
-use Rattle.ob_check.specs.declared.checked_text.TextFault.TheVariants as Text
+use Rattle.ob_check.specs.declared.module_text.TextFault.{TextFault}
+use Rattle.ob_check.specs.declared.module_text.TextFault.TheVariants as Text
 use Rattle.ob_mean.specs.declared.openings.OpenFault.TheVariants as Open
 use Rattle.ob_object_draw.specs.Marks.{IsCallMarked, IsOf, of_verify}
 use Rattle.ob_object_draw.specs.RecordPictures.{HasNoPicture, IsRecordPicture, IsRefusal}

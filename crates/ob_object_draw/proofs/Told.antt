@@ -1,8 +1,8 @@
 -- What is drawn of a module's text and of a history of its program's object, as what is answered of both texts.
 use Rattle.std.proofs.Common.{◌≡◌, ◌∙◌, ℕ, List, Option, ap, arith, inl, inr, refl, subst, take}
 use Rattle.ob_check.specs.CheckedText.{IsNumberedText, TellsTextMemoryApart}
-use Rattle.ob_check.specs.declared.checked_text.TextFault.{TextFault}
-use Rattle.ob_check.specs.declared.checked_text.TextFault.TheVariants as Text
+use Rattle.ob_check.specs.declared.module_text.TextFault.{TextFault}
+use Rattle.ob_check.specs.declared.module_text.TextFault.TheVariants as Text
 use Rattle.ob_code_correct.specs.Named.{CallMeans}
 use Rattle.ob_meaning.specs.Resolved.{IsResolved}
 use Rattle.ob_mean.specs.declared.openings.OpenFault.TheVariants as Open

@@ -1,8 +1,8 @@
 -- What is drawn of a record, from the bytes of a module and of the record, and why there is no picture.
 use Rattle.std.specs.Prelude.{◌≡◌, ◌≢◌, ℕ, List, Option, length, option_map}
 use Rattle.ob_check.specs.CheckedText.{IsTextFault, TellsTextMemoryApart}
-use Rattle.ob_check.specs.declared.checked_text.TextFault.{TextFault}
-use Rattle.ob_check.specs.declared.checked_text.TextFault.TheVariants as Text
+use Rattle.ob_check.specs.declared.module_text.TextFault.{TextFault}
+use Rattle.ob_check.specs.declared.module_text.TextFault.TheVariants as Text
 use Rattle.ob_checked.specs.Exports.{signatures}
 use Rattle.ob_interface.specs.Export.{Signature}
 use Rattle.ob_mean.specs.declared.openings.OpenFault.TheVariants as Open

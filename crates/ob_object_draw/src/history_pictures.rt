@@ -15,7 +15,7 @@ ghost use Rattle.ob_picture_chart.specs.ChartView.{mark_of};
 use crate::marking::{Marked, mark_of};
 use crate::picture_faults::DrawHistoryFault;
 use crate::shown_history::{Shown, shown_of};
-use ob_check::checked_text::checked_text;
+use ob_check::module_text::checked_text;
 use ob_checked::checked::Checked;
 use ob_interface::export::Export;
 use ob_object_search::Search;

@@ -4,8 +4,8 @@
 //! One may rely on the clauses of the public functions, which are in the words of `specs/`.
 #![tactic(auto)]
 
+pub mod drawn_part;
 pub mod history_pictures;
-pub mod legal_part;
 pub mod marking;
 pub mod picture_faults;
 pub mod record_form;

@@ -6,7 +6,7 @@ ghost use Rattle.ob_object_draw.specs.RecordPictures.{IsRefusal};
 ghost use Rattle.ob_picture_chart.specs.ChartView as View;
 
 use crate::record_pictures::DrawRecordFault;
-use ob_check::checked_text::TextFault;
+use ob_check::module_text::TextFault;
 use ob_object_calls::{VerifyFault, verify_text};
 use ob_object_run::OrderFault;
 use ob_picture_chart::Mark;

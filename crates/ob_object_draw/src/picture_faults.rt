@@ -1,6 +1,6 @@
 //! Why there is no picture of a history.
 
-use ob_check::checked_text::TextFault;
+use ob_check::module_text::TextFault;
 use ob_interface::NoMemory;
 use ob_object_search::SearchFault;
 use ob_picture_chart::PictureFault;

@@ -12,7 +12,7 @@ ghost use Rattle.ob_text_reading.specs.RecordLines.{IsRecord, IsRecordFault, Tol
 ghost use Rattle.ob_text_reading.specs.RecordContents.{told_of};
 
 use crate::marking::{mark_of, marked_call};
-use ob_check::checked_text::{TextFault, checked_text};
+use ob_check::module_text::{TextFault, checked_text};
 use ob_checked::checked::Checked;
 use ob_mean::openings::OpenFault;
 use ob_picture::picture;

@@ -9,7 +9,7 @@ ghost use Rattle.ob_object_search.specs.Heard.{IsHeard};
 ghost use Rattle.ob_object_calls.specs.Beginnings.{BeginsPlaced, TrapsPlaced};
 ghost use Rattle.ob_picture_chart.specs.declared.charts.CallRange.{CallRange};
 
-use crate::legal_part::{Part, legal_part};
+use crate::drawn_part::{Part, legal_part};
 use crate::picture_faults::DrawHistoryFault;
 use ob_checked::checked::Checked;
 use ob_object_search::naming_history::named_history;
@@ -17,7 +17,7 @@ use ob_object_search::order_recording::Heard;
 use ob_object_search::{ModuleObject, Search};
 use std::alloc::Global;
 use wf_history::History;
-use wf_order::process_count;
+use wf_order::counted_processes;
 
 /// The events of a history, how many processes they need, and which of them are shown.
 #[derive(Drop)]

@@ -8,11 +8,11 @@
 pub mod conversation;
 pub mod live;
 mod live_call;
-pub mod live_object;
 pub mod live_parts;
 pub mod live_record;
+pub mod live_requests;
 pub mod talking;
 
 pub use conversation::{Conversation, Pipe, TalkFault};
-pub use live_object::{live_object, live_talk};
 pub use live_parts::{Ground, Live, Told};
+pub use live_requests::{live_object, live_talk};

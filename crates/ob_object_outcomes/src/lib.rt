@@ -8,7 +8,7 @@
 pub mod finding;
 pub mod laws;
 pub mod line_kinds;
-pub mod outcome_lines;
+pub mod outcome_text;
 mod question;
 pub mod scripted;
 mod scripts;
@@ -20,7 +20,7 @@ pub use finding::{
     Bounds, LastState, ModuleOutcomes, OutcomesFault, must_hold, outcomes_text, question_asked,
 };
 pub use line_kinds::{push_ids, push_order};
-pub use outcome_lines::outcome_lines;
+pub use outcome_text::outcome_lines;
 pub use scripted::{Scripted, scripted_text};
 pub use stories::story;
 pub use wholes::{WholeOutcomes, wholes_text};

@@ -4,8 +4,8 @@ use Rattle.std.proofs.Common.{◌≡◌, ◌≢◌, ℕ, List, ◌++◌, Option,
 use Rattle.ob_meaning.specs.Resolved.{IsResolved}
 use Rattle.ob_meaning.specs.Same.{SameState}
 use Rattle.ob_check.specs.CheckedText.{IsNumberedText, IsTextFault, TellsTextMemoryApart}
-use Rattle.ob_check.specs.declared.checked_text.TextFault.{TextFault}
-use Rattle.ob_check.specs.declared.checked_text.TextFault.TheVariants as Text
+use Rattle.ob_check.specs.declared.module_text.TextFault.{TextFault}
+use Rattle.ob_check.specs.declared.module_text.TextFault.TheVariants as Text
 use Rattle.ob_code_correct.proofs.Named.{names_simulate, positions_simulate}
 use Rattle.ob_code_correct.specs.Carried.{BegunFit}
 use Rattle.ob_code_correct.specs.Compiled.{Fits}

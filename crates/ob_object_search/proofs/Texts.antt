@@ -1,8 +1,8 @@
 -- What is found of a module's text and of a history of its program's object, as what is answered of both texts.
 use Rattle.std.proofs.Common.{◌≡◌, ◌≢◌, List, ◌++◌, ℕ, Option, Result, Ok, Err, IfErr, ◌⊎◌, inl, inr, refl, subst}
 use Rattle.ob_check.specs.CheckedText.{IsNumberedText, IsTextFault, TellsTextMemoryApart}
-use Rattle.ob_check.specs.declared.checked_text.TextFault.{TextFault}
-use Rattle.ob_check.specs.declared.checked_text.TextFault.TheVariants as Text
+use Rattle.ob_check.specs.declared.module_text.TextFault.{TextFault}
+use Rattle.ob_check.specs.declared.module_text.TextFault.TheVariants as Text
 use Rattle.ob_object_run.specs.LegalOrder.{CallEnds}
 use Rattle.ob_object_search.proofs.Crossing.{fault_named, order_named, order_placed}
 use Rattle.ob_object_search.specs.Searched.{HasEnough, HasNoneNeedless, HasOpen, HasOrder, IsEnough, IsLegalOrder, IsOpenCall, NoneIsNeedless}

@@ -1,6 +1,6 @@
 -- Why there is no record of a history with a legal order.
 use Rattle.std.specs.Prelude.{◌<◌, ℕ, List, Option}
-use Rattle.ob_check.specs.declared.checked_text.TextFault.{TextFault}
+use Rattle.ob_check.specs.declared.module_text.TextFault.{TextFault}
 use Rattle.ob_interface.specs.Call.{ObjectCall, Reply}
 use Rattle.ob_interface.specs.Processes.{most_processes}
 use Rattle.ob_object_search.specs.Searched.{HasBeginning}

@@ -1,6 +1,6 @@
 //! Why there are no orders of parts.
 
-use ob_check::checked_text::TextFault;
+use ob_check::module_text::TextFault;
 use ob_interface::NoMemory;
 use ob_interface::scalar::Scalar;
 use ob_mean::openings::OpenFault;

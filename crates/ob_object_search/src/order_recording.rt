@@ -20,7 +20,7 @@ ghost use Rattle.wf_history.specs.declared.event.CallId.{CallId};
 use crate::naming_history::named_history;
 use crate::searching::{budget_of, order_found};
 use crate::{ModuleObject, Search, SearchFault};
-use ob_check::checked_text::{TextFault, checked_text};
+use ob_check::module_text::{TextFault, checked_text};
 use ob_checked::checked::Checked;
 use ob_interface::NoMemory;
 use ob_object_calls::beginning::beginning;
@@ -32,7 +32,7 @@ use ob_text_record::{Record, write_record};
 use std::alloc::{AllocError, Global};
 use thiserror::Error;
 use wf_history::{CallId, History};
-use wf_order::process_count;
+use wf_order::counted_processes;
 
 /// Why there is no record.
 #[derive(Clone, Copy, Debug, Error)]

@@ -13,7 +13,7 @@ ghost use Rattle.ob_text_reading.specs.Names.{AreApart, AreBelow, named_id};
 ghost use Rattle.wf_history.specs.declared.event.CallId.{CallId};
 
 use crate::instance::ModuleObject;
-use ob_check::checked_text::{TextFault, checked_text};
+use ob_check::module_text::{TextFault, checked_text};
 use ob_checked::checked::Checked;
 use ob_interface::NoMemory;
 use ob_mean::openings::OpenFault;

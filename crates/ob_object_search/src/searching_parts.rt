@@ -21,7 +21,7 @@ ghost use Rattle.wf_parts.specs.View.{part_in, parts_in, rows_in};
 use crate::fault::PartsFault;
 use crate::searching::{budget_of, named};
 use crate::{ModuleObject, Search};
-use ob_check::checked_text::checked_text;
+use ob_check::module_text::checked_text;
 use ob_checked::checked::Checked;
 use ob_interface::NoMemory;
 use ob_interface::scalar::Scalar;

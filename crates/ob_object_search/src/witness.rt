@@ -15,7 +15,7 @@ use crate::order_recording::{Heard, hear};
 use crate::possible::possible_replies;
 use crate::searching::order_found;
 use crate::{ModuleObject, Search, SearchFault};
-use ob_check::checked_text::checked_text;
+use ob_check::module_text::checked_text;
 use ob_checked::checked::Checked;
 use ob_interface::call::Reply;
 use std::alloc::Global;

@@ -1,7 +1,7 @@
 //! A counter that outlives its run.
 
 use crate::{Turn, perform_twice};
-use ob_check::checked_text::checked_text;
+use ob_check::module_text::checked_text;
 use ob_text_record::write_record;
 use std::test::Fail;
 

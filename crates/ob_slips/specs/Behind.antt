@@ -1,7 +1,7 @@
 -- What is told behind a fault of a module's text that comes of a slip.
 use Rattle.std.specs.Prelude.{◌≡◌, ℕ, nat_lt, true, false, List, [], ◌∷◌, ◌++◌, Option, None, Some, codes, length, if◌then◌else◌}
 use Rattle.ob_check.specs.CheckedText.{IsNumberedText, IsTextFault}
-use Rattle.ob_check.specs.declared.checked_text.TextFault.{TextFault}
+use Rattle.ob_check.specs.declared.module_text.TextFault.{TextFault}
 use Rattle.ob_messages.specs.Explanations.{explanation}
 use Rattle.ob_messages.specs.Remarks.{Remark}
 use Rattle.ob_slips.specs.Mendings.{mended, origin_in, phrase}

@@ -1,7 +1,7 @@
 -- What is said of a fault of a module's text.
 use Rattle.std.specs.Prelude.{◌≡◌, ℕ, List, Option, None}
-use Rattle.ob_check.specs.declared.checked_text.TextFault.{TextFault}
-use Rattle.ob_check.specs.declared.checked_text.TextFault.TheVariants as Texts
+use Rattle.ob_check.specs.declared.module_text.TextFault.{TextFault}
+use Rattle.ob_check.specs.declared.module_text.TextFault.TheVariants as Texts
 use Rattle.ob_diagnosis.specs.Remarks.{IsCheckRemark, IsParseRemark, IsScanRemark}
 use Rattle.ob_messages.specs.Remarks.{Remark}
 

@@ -3,8 +3,8 @@ use Rattle.std.specs.Prelude.{ℕ, ◌-◌, ◌==◌, ◌&&◌, ◌||◌, bytes_
 use Rattle.std.specs.Prelude.{false, List, Option, Some, None, codes, drop, length, option_map, take, if◌then◌else◌}
 use Rattle.std.specs.Char.{is_ascii_uppercase}
 use Rattle.std.specs.List.{ends_with, list_all, list_any, starts_with}
-use Rattle.ob_check.specs.declared.checked_text.TextFault.{TextFault}
-use Rattle.ob_check.specs.declared.checked_text.TextFault.TheVariants as Text
+use Rattle.ob_check.specs.declared.module_text.TextFault.{TextFault}
+use Rattle.ob_check.specs.declared.module_text.TextFault.TheVariants as Text
 use Rattle.ob_messages.specs.Places.{is_line_feed, shown_place}
 use Rattle.ob_messages.specs.Words.{is_same_in_any_case, word_at}
 use Rattle.ob_parser.specs.declared.parser.ParseFault.TheVariants as Parse

@@ -5,7 +5,7 @@ ghost use Rattle.ob_check.specs.CheckedText.{is_text_memory};
 ghost use Rattle.ob_slips.specs.Behind.{IsVerdict};
 
 use ob_check::TextFault;
-use ob_check::checked_text::checked_text;
+use ob_check::module_text::checked_text;
 use std::alloc::{AllocError, Global};
 
 /// The fault of a text; `None` where it is a module.

@@ -1,6 +1,6 @@
 //! Texts that are histories, and those that stop being one.
 
-use ob_check::checked_text::checked_text;
+use ob_check::module_text::checked_text;
 use ob_text_reading::{ReadHistory, RecordFault, read_history};
 use std::alloc::Global;
 use std::test::Fail;

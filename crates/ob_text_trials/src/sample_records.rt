@@ -1,6 +1,6 @@
 //! Records of a module with an array, records and BOOLEANs, read and written again.
 
-use ob_check::checked_text::checked_text;
+use ob_check::module_text::checked_text;
 use ob_mean::openings::opening;
 use ob_text_reading::{RecordFault, read_record};
 use ob_text_record::{Record, write_record};

@@ -11,6 +11,7 @@
 mod attempt;
 mod behind;
 mod compared_replies;
+pub mod counted_processes;
 pub mod find;
 mod front;
 pub mod keys;
@@ -19,7 +20,6 @@ mod next_call;
 pub mod opened;
 mod order_calls;
 mod passing;
-pub mod process_count;
 mod quiet;
 mod replay;
 pub mod rows;
@@ -30,8 +30,8 @@ mod sooner;
 mod step;
 mod without;
 
+pub use counted_processes::process_count;
 pub use find::{Verdict, find_order};
 pub use needed::needed_order;
 pub use opened::open_calls;
-pub use process_count::process_count;
 pub use searched_object::Object;

@@ -4,7 +4,7 @@ use Rattle.std.specs.List.{flat_map}
 use Rattle.ob_checked.specs.View.{program_of}
 use Rattle.ob_object_outcomes.specs.OutcomesView.{last_in}
 use Rattle.ob_object_outcomes.specs.OutcomeLines.{end_lines}
-use Rattle.ob_object_outcomes.proofs.outcome_lines.push_ends.Given as goal
+use Rattle.ob_object_outcomes.proofs.outcome_text.push_ends.Given as goal
 
 abbrev pub invariant-loop-end : goal.invariant-loop-end
 invariant-loop-end l =

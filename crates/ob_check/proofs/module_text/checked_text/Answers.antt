@@ -1,7 +1,7 @@
 use Rattle.std.proofs.lemmas.Result.{err_from_is_err_and}
 use Rattle.ob_grammar.specs.View.{module_of}
 use Rattle.ob_check.proofs.NoModule.{no_module_check, no_module_source, one_program, one_tree, source_fault}
-use Rattle.ob_check.proofs.checked_text.checked_text.Goals as goal
+use Rattle.ob_check.proofs.module_text.checked_text.Goals as goal
 
 pub returns-clause-alone : goal.returns-clause-alone
 returns-clause-alone c = one_program _ _ _ c.in_ok-tree.ensures.alone c.in_ok-check.ensures.alone

@@ -1,7 +1,7 @@
 use Rattle.std.proofs.Common.{[]}
 use Rattle.std.proofs.lemmas.Result.{on_ok_weaker}
 use Rattle.ob_object_live.proofs.Named.{live_named}
-use Rattle.ob_object_live.proofs.live_object.live_talk.Goals as goal
+use Rattle.ob_object_live.proofs.live_requests.live_talk.Goals as goal
 
 pub returns : goal.returns
 returns g c asked begins =

@@ -3,7 +3,7 @@ use Rattle.std.proofs.Common.{arith, map}
 use Rattle.std.proofs.lemmas.Option.{MatchOption-at_some}
 use Rattle.wf_history.specs.View.{event_of}
 use Rattle.wf_order.proofs.Counted.{counted}
-use Rattle.wf_order.proofs.process_count.process_count.Goals as goal
+use Rattle.wf_order.proofs.counted_processes.process_count.Goals as goal
 
 pub returns-in_default : goal.returns-in_default
 returns-in_default c = let many = c.processes_of.ensures.many c.in_default.is in omega (arith, many)

@@ -2,7 +2,7 @@ use Rattle.std.proofs.Common.{◌∙◌, ap}
 use Rattle.ob_code_correct.specs.CodeMeaning.{EngineParts}
 use Rattle.ob_object_compile.specs.View.{asked_of, object_in}
 use Rattle.ob_object_live.proofs.Named.{begins_at}
-use Rattle.ob_object_live.proofs.live_object.live_object.Goals as goal
+use Rattle.ob_object_live.proofs.live_requests.live_object.Goals as goal
 
 pub returns-clause-begun : goal.returns-clause-begun
 returns-clause-begun c =

@@ -9,7 +9,7 @@ use Rattle.wf_history.specs.History.{Event, IsHistory}
 use Rattle.wf_history.specs.View.{event_of}
 use Rattle.wf_order.proofs.Turns.{take_whole}
 use Rattle.wf_order.specs.Verdict.{HasLegal}
-use Rattle.ob_object_draw.proofs.legal_part.legal_part.Goals as goal
+use Rattle.ob_object_draw.proofs.drawn_part.legal_part.Goals as goal
 
 abbrev Events : Type 0
 Events = List (Event ObjectCall Reply)

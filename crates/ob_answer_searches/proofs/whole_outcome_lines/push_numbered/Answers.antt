@@ -5,7 +5,7 @@ use Rattle.ob_answer_searches.proofs.Outcomes.{lines_from}
 use Rattle.ob_answer_searches.specs.WholeLines.{one_lines}
 use Rattle.ob_checked.specs.View.{program_of}
 use Rattle.ob_object_outcomes.specs.WholesView.{numbered, outcome_at}
-use Rattle.ob_answer_searches.proofs.whole_lines.push_numbered.Goals as goal
+use Rattle.ob_answer_searches.proofs.whole_outcome_lines.push_numbered.Goals as goal
 
 pub loop-index-preserved : goal.loop-index-preserved
 loop-index-preserved c =

@@ -3,7 +3,7 @@ use Rattle.std.proofs.Common.{◌≡◌, ◌++◌, drop, map, string_bytes}
 use Rattle.ob_answer_searches.proofs.Outcomes.{lines_from}
 use Rattle.ob_checked.specs.View.{program_of}
 use Rattle.ob_object_outcomes.specs.WholesView.{numbered}
-use Rattle.ob_answer_searches.proofs.whole_lines.push_numbered.Given as goal
+use Rattle.ob_answer_searches.proofs.whole_outcome_lines.push_numbered.Given as goal
 
 abbrev pub invariant-loop-index : goal.invariant-loop-index
 invariant-loop-index l =

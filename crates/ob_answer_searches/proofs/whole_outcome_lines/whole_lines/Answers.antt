@@ -10,7 +10,7 @@ use Rattle.ob_store.specs.declared.state.State.{State}
 use Rattle.ob_typing.specs.Program.{Program}
 use Rattle.wf_history.specs.View.{kept_reply}
 use Rattle.wf_whole_outcomes.specs.View.{wholes_in}
-use Rattle.ob_answer_searches.proofs.whole_lines.whole_lines.Goals as goal
+use Rattle.ob_answer_searches.proofs.whole_outcome_lines.whole_lines.Goals as goal
 
 pub returns : goal.returns
 returns c =
