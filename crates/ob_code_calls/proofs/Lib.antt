@@ -1,7 +1,6 @@
 mod Again
 mod Arguments
 pub mod Ended
-mod Laid
 mod OnScalars
 mod Results
 mod Stands

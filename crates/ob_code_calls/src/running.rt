@@ -1,17 +1,14 @@
 //! The steps of one body in a row.
 
-ghost use Rattle.std.specs.Prelude.{◌≡◌, ◌<◌, ◌^◌, ◌∷◌, List, get_or, length, map, option_copied, pos, slice_get};
+ghost use Rattle.std.specs.Prelude.{◌≡◌, List, length, map, option_copied, slice_get};
 ghost use Rattle.std.specs.List.{range_with_len};
 ghost use Rattle.ob_code_calls.specs.Calls.{asked, meaning_of};
-ghost use Rattle.ob_code_correct.specs.CodeMeaning.{laid};
 ghost use Rattle.ob_code_correct.specs.Compiled.{HasReserve, IsFitting};
-ghost use Rattle.ob_code_scheme.specs.Layout.{word};
 ghost use Rattle.ob_interface.specs.View.{reply_of};
 ghost use Rattle.ob_interface.specs.declared.scalar.Scalar as Scalars;
-ghost use Rattle.ob_interface.specs.declared.scalar.Scalar.TheVariants.{Int};
 ghost use Rattle.wf_table.specs.Meaning.{kept, steps};
 
-use ob_code_engine::call_words::reply_in;
+use ob_code_engine::call_words::{lay, reply_in};
 use ob_code_engine::{CodeEngine, Entrance};
 use ob_code_machine::Body;
 use ob_interface::call::Reply;
@@ -20,44 +17,6 @@ use smallvec::SmallVec;
 use std::alloc::Global;
 use wf_object::Engine;
 use wf_table::EngineTurn;
-
-/// The word of a scalar: TRUE is 1 and FALSE is 0.
-fn word_of(scalar: Scalar) -> i64
-    ensures { result ≡ word scalar }
-{
-    match scalar {
-        Scalar::Int(number) => i64::from(number),
-        Scalar::Bool(truth) => i64::from(truth),
-    }
-}
-
-/// The argument at a place; 0 behind them.
-fn argument_at(arguments: &[Scalar], place: usize) -> Scalar
-    ensures { result ≡ get_or arguments.now place (Int (pos 0)) }
-{
-    arguments.get(place).copied().unwrap_or(Scalar::Int(0))
-}
-
-/// The word of a call at a place: first the number of its export, then its arguments, and then zeros.
-fn word_at(proc: usize, arguments: &[Scalar], place: usize) -> i64
-    requires { proc < 2 ^ 63 }
-    ensures { result ≡ get_or (pos proc ∷ map word arguments.now) place (pos 0) }
-{
-    if place == 0 {
-        return proc as i64;
-    }
-    word_of(argument_at(arguments, place - 1))
-}
-
-/// Writes a call as words.
-fn lay_call(proc: usize, arguments: &[Scalar], words: &mut [i64])
-    requires { proc < 2 ^ 63 }
-    ensures { words.new ≡ laid (length words.old) (asked proc arguments.now) }
-{
-    for place in 0..words.len() {
-        words[place] = word_at(proc, arguments, place);
-    }
-}
 
 /// Begins the body of a call, by the words of which it is written in these.
 pub(crate) fn begin(
@@ -75,7 +34,7 @@ pub(crate) fn begin(
 {
     // The exports stand in memory, so that their numbers are words.
     let _exports = engine.exports();
-    lay_call(proc, arguments, words);
+    lay(proc, arguments, words);
     engine.start(run, words);
 }
 

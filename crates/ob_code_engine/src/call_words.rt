@@ -2,12 +2,12 @@
 
 ghost use Rattle.std.specs.Prelude.{◌≡◌, ◌<◌, ◌≤◌, ◌+◌, ◌^◌, ◌++◌, length, replicate, pos};
 ghost use Rattle.ob_interface.specs.Call.{Answers};
-ghost use Rattle.ob_interface.specs.View.{call_of, reply_of};
+ghost use Rattle.ob_interface.specs.View.{reply_of};
 ghost use Rattle.ob_code_scheme.specs.Layout.{word};
 ghost use Rattle.ob_code_correct.specs.CodeMeaning as Words;
 
 use ob_code_machine::Argument;
-use ob_interface::call::{Call, Reply};
+use ob_interface::call::Reply;
 use ob_interface::export::Formal;
 use ob_interface::scalar::{Scalar, ScalarType};
 use smallvec::SmallVec;
@@ -30,16 +30,16 @@ fn clear(words: &mut [i64])
     words.fill(0);
 }
 
-/// Writes a call as words: the number of its export, its arguments, and zeros.
-pub fn lay(call: &Call, words: &mut [i64])
-    requires number { call.now.proc < 2 ^ 63 }
-    requires room { length call.now.args.items < length words.old }
-    ensures { words.new ≡ Words.laid (length words.old) (call_of call.now) }
+/// Writes the call of an export as words: its number, its arguments, and zeros.
+pub fn lay(proc: usize, arguments: &[Scalar], words: &mut [i64])
+    requires number { proc < 2 ^ 63 }
+    requires room { length arguments.now < length words.old }
+    ensures { words.new ≡ Words.laid (length words.old) (record { export = proc; arguments = arguments.now }) }
 {
     clear(words);
-    words[0] = call.proc as i64;
+    words[0] = proc as i64;
     let mut place = 1;
-    for argument in call.args.as_slice() {
+    for argument in arguments {
         words[place] = word_of_scalar(*argument);
         place += 1;
     }

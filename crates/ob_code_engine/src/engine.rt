@@ -236,7 +236,7 @@ impl Engine for CodeEngine {
     fn lay(&self, call: &Call, words: &mut [i64]) {
         // The exports stand in memory, so that their numbers are words.
         let _exports = &self.exports;
-        lay(call, words);
+        lay(call.proc, call.args.as_slice(), words);
     }
 
     fn start(&self, run: &mut Body, words: &[i64]) {
