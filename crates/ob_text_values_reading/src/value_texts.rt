@@ -205,9 +205,9 @@ fn read_scalar(word: &[u8]) -> Option<Scalar>
         ((type : ScalarType) (s : Scalar) → IsValue type word.now s → ⊥)
         (λ s. (type : ScalarType) × IsValue type word.now s) }
 {
-    match parameters::read_value(ScalarType::Boolean, word) {
+    match parameter_words::read_value(ScalarType::Boolean, word) {
         Some(scalar) => Some(scalar),
-        None => parameters::read_value(ScalarType::Integer, word),
+        None => parameter_words::read_value(ScalarType::Integer, word),
     }
 }
 

@@ -24,4 +24,5 @@ lay-requires-clause-room c =
     let count = arguments_count f.entrance.parameters c.args.call.now.args.items f.typed in
     let has = most_has value_count exports c.args.call.now.proc f.entrance f.there in
     let long : length c.args.words.now ≡ suc (most value_count exports) = c.requires.words in
-    omega (arith, count, has, long)
+    let same = ap length c.as_slice.ensures in
+    omega (arith, count, has, long, same)
