@@ -8,5 +8,5 @@ use Rattle.ob_code_engine.proofs.call_words.lay.Given as goal
 abbrev pub invariant-loop-argument : goal.invariant-loop-argument
 invariant-loop-argument l = record {
   place : l.place ≡ l.argument-index + 1;
-  laid : l.words ≡ padded (length l.fn.words) (pos l.proc ∷ map word (take l.argument-index l.argument-items));
+  laid : l.words ≡ padded (length l.fn.words) (pos l.proc ∷ map word (take l.argument-index l.arguments));
 }
