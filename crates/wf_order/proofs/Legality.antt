@@ -14,7 +14,7 @@ use Rattle.wf_history.specs.Legal.{HasBegun, IsLegal, NoRepeats, OneAtATime, Rep
 use Rattle.wf_history.specs.View.{seen_call, seen_reply}
 use Rattle.wf_order.specs.Listed.{AreListed, EachIsNeeded, IsOpenCall, NoneIsOpen, Replays, id_of, ids_of, over, next}
 use Rattle.wf_order.specs.Needed.{IsOpen, LeavesOut, NoneIsNeedless, nothing, one}
-use Rattle.wf_order.specs.declared.order_calls.Listed.{Listed}
+use Rattle.wf_order.specs.declared.listed_calls.Listed.{Listed}
 
 -- where an item stands that stood at a place before one was put behind the first ones
 abbrev up : {A : Type 0} → List A → ℕ → ℕ

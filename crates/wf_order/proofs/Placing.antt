@@ -12,7 +12,7 @@ use Rattle.wf_history.specs.History.{Event, Begin, End}
 use Rattle.wf_history.specs.Legal.{HasBegun}
 use Rattle.wf_order.specs.Listed.{AreListed, IsListed, id_of, ids_of}
 use Rattle.wf_order.specs.Needed.{IsOpen}
-use Rattle.wf_order.specs.declared.order_calls.Listed.{Listed}
+use Rattle.wf_order.specs.declared.listed_calls.Listed.{Listed}
 use Rattle.wf_order.specs.Rows.{AreRows, begun_rows, call_at, ended_rows, row_of}
 use Rattle.wf_order.specs.declared.rows.Begun.{Begun}
 use Rattle.wf_order.specs.declared.rows.Ended.{Ended}

@@ -4,7 +4,7 @@ use Rattle.std.proofs.lemmas.List.{drop_all, drop_more}
 use Rattle.ob_interface.specs.Call.{ObjectCall, Reply}
 use Rattle.wf_history.specs.View.{seen_call}
 use Rattle.wf_order.specs.Listed.{Ends, Replays, over, next}
-use Rattle.wf_order.specs.declared.order_calls.Listed.{Listed}
+use Rattle.wf_order.specs.declared.listed_calls.Listed.{Listed}
 
 module _ {State : Type 0} (Effect : ObjectCall → State → State → Reply → Type 0) where
   -- no call is left

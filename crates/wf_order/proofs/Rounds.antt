@@ -10,7 +10,7 @@ use Rattle.wf_history.specs.View.{seen_call}
 use Rattle.wf_order.proofs.Replaying.{behind_first, first_ends, has_end, joined, one_last, one_more, parted}
 use Rattle.wf_order.specs.Listed.{EachIsNeeded, Ends, IsOpenCall, IsRound, IsThinner, Replays, over}
 use Rattle.wf_order.specs.Needed.{LeavesOut, nothing, one}
-use Rattle.wf_order.specs.declared.order_calls.Listed.{Listed}
+use Rattle.wf_order.specs.declared.listed_calls.Listed.{Listed}
 
 -- the parts of a list before and behind a place
 module _ {A : Type 0} (all first rest : List A) (x : A) (k : ℕ) (parts : all ≡ first ++ x ∷ rest) (here : length first ≡ k) where

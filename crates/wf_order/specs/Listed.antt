@@ -6,7 +6,7 @@ use Rattle.wf_history.specs.History.{Event, End}
 use Rattle.wf_history.specs.Legal.{HasBegun}
 use Rattle.wf_history.specs.View.{seen_call, seen_reply}
 use Rattle.wf_order.specs.Needed.{IsOpen, LeavesOut}
-use Rattle.wf_order.specs.declared.order_calls.Listed.{Listed}
+use Rattle.wf_order.specs.declared.listed_calls.Listed.{Listed}
 
 -- the call has begun so, and has this reply, or none where it does not end
 pub record IsListed (history : List (Event ObjectCall Reply)) (c : Listed) : Type 0 where

@@ -4,10 +4,10 @@ ghost use Rattle.std.specs.Prelude.{◌≡◌, ◌≤◌, ◌∷◌, ℕ, length
 ghost use Rattle.wf_history.specs.Legal.{IsLegal};
 ghost use Rattle.wf_order.specs.Listed.{EachIsNeeded, IsOpenCall, IsThinner, Replays};
 ghost use Rattle.wf_order.specs.Needed.{IsOpen, LeavesOut, NoneIsNeedless};
-ghost use Rattle.wf_order.specs.declared.order_calls.Listed as Rust;
+ghost use Rattle.wf_order.specs.declared.listed_calls.Listed as Rust;
 
 use crate::Object;
-use crate::order_calls::{Listed, listed_all, names_of};
+use crate::listed_calls::{Listed, listed_all, names_of};
 use crate::replay::{after, onward, replays};
 use ob_interface::NoMemory;
 use std::alloc::Global;

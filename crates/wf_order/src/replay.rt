@@ -6,7 +6,7 @@ ghost use Rattle.wf_history.specs.View.{seen_call};
 ghost use Rattle.wf_order.specs.Listed.{Ends, Replays};
 
 use crate::Object;
-use crate::order_calls::Listed;
+use crate::listed_calls::Listed;
 use crate::step::outcome;
 use ob_interface::NoMemory;
 use std::alloc::Global;

@@ -2,7 +2,7 @@
 use Rattle.std.proofs.Common.{◌≡◌, ◌<◌, ◌≤◌, ℕ, Some, slice_get}
 use Rattle.wf_order.proofs.needed.open_until.Given as goal
 use Rattle.wf_order.specs.Listed.{IsOpenCall}
-use Rattle.wf_order.specs.declared.order_calls.Listed as Rust
+use Rattle.wf_order.specs.declared.listed_calls.Listed as Rust
 
 abbrev pub invariant-loop-place : goal.invariant-loop-place
 invariant-loop-place l =

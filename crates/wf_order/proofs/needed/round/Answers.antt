@@ -4,7 +4,7 @@ use Rattle.std.proofs.lemmas.List.{take_rest}
 use Rattle.wf_order.proofs.Rounds.{end_here, round_end, round_kept, round_left, round_start}
 use Rattle.wf_order.proofs.needed.round.Goals as goal
 use Rattle.wf_order.specs.Listed.{Replays}
-use Rattle.wf_order.specs.declared.order_calls.Listed.{Listed}
+use Rattle.wf_order.specs.declared.listed_calls.Listed.{Listed}
 
 pub loop-place-init : goal.loop-place-init
 loop-place-init g c =

@@ -4,7 +4,7 @@ use Rattle.wf_order.proofs.Rounds.{left_twice, none_open}
 use Rattle.wf_order.proofs.needed.thinned.Goals as goal
 use Rattle.wf_order.specs.Listed.{IsThinner}
 use Rattle.wf_order.specs.Needed.{nothing}
-use Rattle.wf_order.specs.declared.order_calls.Listed.{Listed}
+use Rattle.wf_order.specs.declared.listed_calls.Listed.{Listed}
 
 pub returns-then-open_until-eq0-clause-left_out : goal.returns-then-open_until-eq0-clause-left_out
 returns-then-open_until-eq0-clause-left_out g c = nothing refl

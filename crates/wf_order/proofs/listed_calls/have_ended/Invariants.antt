@@ -4,7 +4,7 @@ use Rattle.ob_interface.specs.Call.{ObjectCall, Reply}
 use Rattle.wf_history.specs.History.{Event}
 use Rattle.wf_order.specs.Listed.{NoneIsOpen}
 use Rattle.wf_order.specs.Rows.{AreRows}
-use Rattle.wf_order.proofs.order_calls.have_ended.Given as goal
+use Rattle.wf_order.proofs.listed_calls.have_ended.Given as goal
 
 abbrev pub invariant-loop-id : goal.invariant-loop-id
 invariant-loop-id l = (history : List (Event ObjectCall Reply)) (processes : ℕ) → AreRows history processes l.rows → NoneIsOpen history (take l.id-index l.order)

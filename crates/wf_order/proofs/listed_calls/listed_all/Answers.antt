@@ -5,7 +5,7 @@ use Rattle.std.proofs.lemmas.Option.{MatchOption-at_none, MatchOption-at_some, s
 use Rattle.wf_history.specs.View.{event_of}
 use Rattle.wf_history.specs.declared.event.CallId.{CallId}
 use Rattle.wf_order.proofs.Placing.{ids_more, listed_more}
-use Rattle.wf_order.proofs.order_calls.listed_all.Goals as goal
+use Rattle.wf_order.proofs.listed_calls.listed_all.Goals as goal
 
 abbrev default : CallId
 default = record { process = 0; number = 0 }

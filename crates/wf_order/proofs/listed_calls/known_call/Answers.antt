@@ -4,9 +4,9 @@ use Rattle.std.specs.Prelude.{MatchOption}
 use Rattle.ob_interface.specs.Call.{ObjectCall}
 use Rattle.wf_history.specs.Legal.{HasBegun}
 use Rattle.wf_order.proofs.Placing.{begun_here, not_begun, not_numbered, replied_here}
-use Rattle.wf_order.proofs.order_calls.known_call.Goals as goal
+use Rattle.wf_order.proofs.listed_calls.known_call.Goals as goal
 use Rattle.wf_order.specs.Listed.{IsListed}
-use Rattle.wf_order.specs.declared.order_calls.Listed.{Listed}
+use Rattle.wf_order.specs.declared.listed_calls.Listed.{Listed}
 
 pub returns-in_err-place-clause-listed : goal.returns-in_err-place-clause-listed
 returns-in_err-place-clause-listed c = λ history processes are.

@@ -7,7 +7,7 @@ use Rattle.wf_history.specs.declared.event.CallId.{CallId}
 use Rattle.wf_order.specs.Listed.{NoneIsOpen}
 use Rattle.wf_order.specs.Needed.{IsOpen}
 use Rattle.wf_order.proofs.Placing.{ended_here}
-use Rattle.wf_order.proofs.order_calls.have_ended.Goals as goal
+use Rattle.wf_order.proofs.listed_calls.have_ended.Goals as goal
 
 pub loop-id-preserved : goal.loop-id-preserved
 loop-id-preserved c = λ history processes are.
