@@ -37,7 +37,12 @@ pub(crate) fn candidates(
             let (_, reply) = object.apply(alloc, &state, call)?;
             push_new(&mut replies, reply)?;
         }
-        if let Some(made) = call_at(calls.before, &begins, numbered(calls.names, *id)) {
+        let named = calls.names.iter().position(|name| *name == id.process);
+        let numbered = CallId {
+            process: named.unwrap_or(0),
+            number: id.number,
+        };
+        if let Some(made) = call_at(calls.before, &begins, numbered) {
             let (next, _) = object.apply(alloc, &state, made)?;
             state = next;
         }
@@ -53,24 +58,15 @@ fn begins_of(
     processes: usize,
     events: &[Event],
 ) -> Result<Vec<Vec<usize>>, AllocError> {
-    let mut begins = Vec::new(alloc);
-    for _ in 0..processes {
-        begins.push(Vec::new(alloc))?;
-    }
+    let mut begins: Vec<Vec<usize>> = (0..processes).map(|_| Vec::new(alloc)).collect(alloc)?;
     for (place, event) in events.iter().enumerate() {
-        push_begin(&mut begins, place, event)?;
+        if let SeenEvent::Begin(id, _) = event.seen()
+            && let Some(row) = begins.get_mut(id.process)
+        {
+            row.push(place)?;
+        }
     }
     Ok(begins)
-}
-
-/// Adds the place where a call begins there.
-fn push_begin(begins: &mut [Vec<usize>], place: usize, event: &Event) -> Result<(), AllocError> {
-    if let SeenEvent::Begin(id, _) = event.seen()
-        && let Some(row) = begins.get_mut(id.process)
-    {
-        row.push(place)?;
-    }
-    Ok(())
 }
 
 /// The call of this name, if it has begun.
@@ -81,18 +77,6 @@ fn call_at<'a>(events: &'a [Event], begins: &[Vec<usize>], id: CallId) -> Option
     match events.get(*place)?.seen() {
         SeenEvent::Begin(_, call) => Some(call),
         _ => None,
-    }
-}
-
-/// The call by the small number of its process.
-fn numbered(names: &[usize], id: CallId) -> CallId {
-    let process = names
-        .iter()
-        .position(|name| *name == id.process)
-        .unwrap_or(0);
-    CallId {
-        process,
-        number: id.number,
     }
 }
 
