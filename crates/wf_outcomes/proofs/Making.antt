@@ -28,8 +28,8 @@ set_other (z ∷ xs) (suc p) zero x other = refl
 set_other (z ∷ xs) (suc p) (suc k) x other = set_other xs p k x (λ e. other (ap suc e))
 
 -- what is read at a place
-pub there : {X : Type 0} (xs : List X) (p : ℕ) (x : X) → true ≡ nat_lt p (length xs) → x ≡ get_or xs p x → slice_get xs p ≡ Some x
-there xs p x within is = slice_get-get_or xs p x (ltb-true p (length xs) (sym within)) ∙ ap Some (sym is)
+pub item_at : {X : Type 0} (xs : List X) (p : ℕ) (x : X) → true ≡ nat_lt p (length xs) → x ≡ get_or xs p x → slice_get xs p ≡ Some x
+item_at xs p x within is = slice_get-get_or xs p x (ltb-true p (length xs) (sym within)) ∙ ap Some (sym is)
 
 module _ {State Meaning : Type 0} (meaning : State → Meaning) (words_of : Meaning → List ℕ) (Effect : ObjectCall → Meaning → Meaning → Reply → Type 0) where
   pub nothing_made : (calls : List (Made State)) → calls ≡ [] → AreMade meaning words_of Effect calls
@@ -39,12 +39,12 @@ module _ {State Meaning : Type 0} (meaning : State → Meaning) (words_of : Mean
   -- one more is remembered
   pub still_made : (calls more : List (Made State)) → AreMade meaning words_of Effect calls → (new : Made State) → IsMade meaning words_of Effect new → IsRemembered calls more new →
       AreMade meaning words_of Effect more
-  still_made calls more are new is (inl at_place) =
-      subst (λ (l : List (Made State)). AreMade meaning words_of Effect l) (sym at_place.1) (λ k made at. elim (cases_eq k at_place.0) [
+  still_made calls more are new is (inl over) =
+      subst (λ (l : List (Made State)). AreMade meaning words_of Effect l) (sym over.1) (λ k made at. elim (cases_eq k over.0) [
         | inl here ↦
-            let there : slice_get (set calls at_place.0 new) at_place.0 ≡ Some made = ap (slice_get (set calls at_place.0 new)) (sym here) ∙ at in
-            subst (λ (m : Made State). IsMade meaning words_of Effect m) (sym (set_same calls at_place.0 new made there)) is
-        | inr other ↦ are k made (sym (set_other calls at_place.0 k new other) ∙ at)
+            let there : slice_get (set calls over.0 new) over.0 ≡ Some made = ap (slice_get (set calls over.0 new)) (sym here) ∙ at in
+            subst (λ (m : Made State). IsMade meaning words_of Effect m) (sym (set_same calls over.0 new made there)) is
+        | inr other ↦ are k made (sym (set_other calls over.0 k new other) ∙ at)
       ])
   still_made calls more are new is (inr behind) =
       subst (λ (l : List (Made State)). AreMade meaning words_of Effect l) (sym behind) (λ k made at. elim (place_push calls new k made at) [

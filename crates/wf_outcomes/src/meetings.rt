@@ -22,19 +22,18 @@ struct Meetings {
     stride: u64,
 }
 
-/// A number of a state. The words of integers that are not negative are multiples of eight, and so this one is small where they are small.
+/// The first row of a configuration's state. The words of integers that are not negative are multiples of eight, and so the rows of small ones
+/// stand close together.
 #[inline(always)]
-fn number_of(row: u64) -> u64 {
-    (row >> 3 << 1) | (row & 1)
+fn first_row<S>(here: &Found<S>, stride: u64) -> u64 {
+    let row = here.kept.as_ref().row;
+    ((row >> 3 << 1) | (row & 1)).wrapping_mul(stride)
 }
 
-/// Where it is marked that the next call of a process met the state.
+/// Where it is marked that the next call of a process met the state that has this first row.
 #[inline(always)]
-fn row_of<S>(here: &Found<S>, stride: u64, process: usize) -> usize {
-    let state = number_of(here.kept.as_ref().row);
-    let call = state
-        .wrapping_mul(stride)
-        .wrapping_add(count_at(here, process) as u64);
+fn row_of<S>(here: &Found<S>, first: u64, process: usize) -> usize {
+    let call = first.wrapping_add(count_at(here, process) as u64);
     let row = call
         .wrapping_mul(here.counts.len() as u64)
         .wrapping_add(process as u64);
@@ -134,8 +133,9 @@ fn meet<S: Drop>(seen: &Seen<S>, meetings: &mut Meetings, place: usize) -> Resul
     ensures marks { OnOk result (AreMarks meetings.new.marks.items meetings.new.places.items) }
 {
     let here = &seen[place];
+    let first = first_row(here, meetings.stride);
     for process in 0..here.counts.len() {
-        let row = row_of(here, meetings.stride, process);
+        let row = row_of(here, first, process);
         if !is_met(seen, meetings, row, here, process) {
             note(meetings, row, place)?;
         }
@@ -152,10 +152,13 @@ pub(crate) fn telling_places<S: Drop>(
 ) -> Result<Vec<usize>, NoMemory>
     ensures { IfOk result (λ places. AreTelling seen.now.keys places.items (length seen.now.keys)) }
 {
+    let places = Vec::new(alloc);
+    let marks = Vec::new(alloc);
+    let stride = (most as u64).wrapping_add(1);
     let mut meetings = Meetings {
-        places: Vec::new(alloc),
-        marks: Vec::new(alloc),
-        stride: (most as u64).wrapping_add(1),
+        places,
+        marks,
+        stride,
     };
     for place in 0..seen.len() {
         meet(seen, &mut meetings, place)?;

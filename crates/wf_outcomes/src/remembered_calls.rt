@@ -126,8 +126,8 @@ fn is_made_so<S>(made: &Made<'_, S>, before: &Stated<S>, call: &KeptCall) -> boo
 
 /// Where the call that stands at a row is among those that were made.
 #[inline(always)]
-fn place_at(rows: &[u16], row: usize) -> usize {
-    match rows.get(row) {
+fn place_at<S>(memory: &Memory<'_, S>, row: usize) -> usize {
+    match memory.rows.as_slice().get(row) {
         Some(place) => *place as usize,
         None => NOWHERE as usize,
     }
@@ -142,7 +142,7 @@ fn recalled<'m, 'a, S>(
 ) -> Option<&'m Made<'a, S>>
     ensures { IfSome result (λ made. IsRecalled memory.now.made.items before.now call.now made.now) }
 {
-    let place = place_at(memory.rows.as_slice(), row_of(before, call));
+    let place = place_at(memory, row_of(before, call));
     let Some(made) = memory.made.as_slice().get(place) else {
         return None;
     };
@@ -192,7 +192,7 @@ fn remember<'a, S: Drop>(
 ) -> Result<(), NoMemory>
     ensures { OnOk result (IsRemembered memory.old.made.items memory.new.made.items made.entry) }
 {
-    let place = place_at(memory.rows.as_slice(), row);
+    let place = place_at(&*memory, row);
     let many = memory.made.len();
     if place < many {
         memory.made[place] = made;
