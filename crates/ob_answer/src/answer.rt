@@ -29,11 +29,12 @@ use ob_answer_searches::order_answers::answer_order;
 use ob_answer_searches::outcomes_answers::Looking;
 use ob_command::command::{
     CallNumbers, CallsCommand, Command, OrderCommand, OutcomesCommand, RunCommand, SeenCommand,
-    SeqCommand, Stop, read_command,
+    SeqCommand, Stop,
 };
 use ob_interface::NoMemory;
 use ob_object_calls::Details;
 use ob_picture_chart::CallRange;
+use ob_plain_words::asked_command::asked_command;
 use std::alloc::Global;
 use std::random::RandomSource;
 use std::sync::Wait;
@@ -90,7 +91,7 @@ pub fn answer_alone<'a, K: RandomSource, F: Files>(
 ) -> Result<Alone<'a>, NoMemory>
     ensures asked { IfOk result (λ alone. IsAlone F.reads (map (λ word. word.now) words.entry.now) files.old alone files.new) }
 {
-    match read_command(alloc, words) {
+    match asked_command(alloc, words) {
         Ok(command) => obey_once(keys, alloc, command, files),
         Err(stop) => Ok(Alone::Answered(answer_stop(alloc, stop)?)),
     }

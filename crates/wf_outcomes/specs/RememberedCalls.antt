@@ -1,5 +1,5 @@
 -- What is remembered of calls that were made.
-use Rattle.std.specs.Prelude.{◌≡◌, ℕ, List, Option, Some, slice_get}
+use Rattle.std.specs.Prelude.{◌≡◌, ℕ, ◌⊎◌, List, [], ◌∷◌, ◌++◌, Some, slice_get, slice_set}
 use Rattle.ob_interface.specs.Call.{ObjectCall, Reply}
 use Rattle.ob_interface.specs.View.{reply_of}
 use Rattle.wf_history.specs.declared.kept.KeptCall.{KeptCall}
@@ -18,17 +18,17 @@ pub record IsMade {State Meaning : Type 0} (meaning : State → Meaning) (words_
   pub effect : Effect (kept_call made.call.now) (meaning made.before.value.state) (meaning made.after.value.state) (reply_of made.reply)
 
 -- all calls that are remembered were made
-abbrev pub AreMade : {State Meaning : Type 0} → (State → Meaning) → (Meaning → List ℕ) → (ObjectCall → Meaning → Meaning → Reply → Type 0) → List (Option (Rust.Made State)) → Type 0
-AreMade {State} meaning words_of Effect rows = (k : ℕ) (made : Rust.Made State) → slice_get rows k ≡ Some (Some made) → IsMade meaning words_of Effect made
+abbrev pub AreMade : {State Meaning : Type 0} → (State → Meaning) → (Meaning → List ℕ) → (ObjectCall → Meaning → Meaning → Reply → Type 0) → List (Rust.Made State) → Type 0
+AreMade {State} meaning words_of Effect calls = (k : ℕ) (made : Rust.Made State) → slice_get calls k ≡ Some made → IsMade meaning words_of Effect made
 
--- no call is remembered
-abbrev pub IsNothing : {State : Type 0} → List (Option (Rust.Made State)) → Type 0
-IsNothing {State} rows = (k : ℕ) (made : Rust.Made State) → slice_get rows k ≡ Some (Some made) → ⊥
+-- one more is remembered, in the place of another one or behind all
+abbrev pub IsRemembered : {State : Type 0} → (calls more : List (Rust.Made State)) → Rust.Made State → Type 0
+IsRemembered calls more made = ((place : ℕ) × (more ≡ slice_set calls place made)) ⊎ (more ≡ calls ++ made ∷ [])
 
 -- it is remembered, of a state with the same words, and of the same call
-pub record IsRecalled {State : Type 0} (rows : List (Option (Rust.Made State))) (before : Stated State) (call : KeptCall) (made : Rust.Made State) : Type 0 where
-  pub row : ℕ
-  pub there : slice_get rows row ≡ Some (Some made)
+pub record IsRecalled {State : Type 0} (calls : List (Rust.Made State)) (before : Stated State) (call : KeptCall) (made : Rust.Made State) : Type 0 where
+  pub place : ℕ
+  pub there : slice_get calls place ≡ Some made
   pub words : made.before.value.words.items ≡ before.words.items
   pub call_same : kept_call made.call.now ≡ kept_call call
 

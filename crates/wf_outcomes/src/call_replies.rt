@@ -8,7 +8,7 @@ ghost use Rattle.wf_outcomes.specs.Outcomes.{HasNoReply, IsAdded, IsOnlyReply};
 ghost use Rattle.wf_outcomes.specs.Possible.{had_in, reply_in};
 
 use crate::explored::Explored;
-use crate::remembered_calls::{Made, reply_to};
+use crate::remembered_calls::{Memory, reply_to};
 use crate::seen::Found;
 use crate::step::{Task, next_call};
 use ob_interface::NoMemory;
@@ -75,12 +75,12 @@ fn is_next(counts: &Counts, id: CallId) -> bool
 /// The reply of a call at a configuration, if it is next there.
 fn reply_at<O: Object>(
     task: &Task<'_, O>,
-    memory: &[Option<Made<'_, O::State>>],
+    memory: &Memory<'_, O::State>,
     here: &Found<O::State>,
     id: CallId,
 ) -> Result<Option<Reply>, NoMemory>
     requires words { IsWorded O.meaning O.words_of here.now }
-    requires memory { ∥ AreMade O.meaning O.words_of (O.effect task.now.object.now) memory.now ∥₁ }
+    requires memory { ∥ AreMade O.meaning O.words_of (O.effect task.now.object.now) memory.now.made.items ∥₁ }
     ensures { IfOk result (λ made. MatchOption made (HasNoReply (O.effect task.now.object.now) (calls_in task.now.scripts.now) (kept_in O.meaning here.now).here id)
         (λ reply. ∥ IsOnlyReply (O.effect task.now.object.now) (calls_in task.now.scripts.now) (kept_in O.meaning here.now).here id (reply_of reply) ∥₁)) }
 {

@@ -21,7 +21,7 @@ pub struct Explored<'a, O: Object> {
     /// Places at which the replies of all calls are to be seen.
     pub telling: Vec<usize>,
     ghost worded: { AreWorded O.meaning O.words_of seen },
-    ghost remembered: { ∥ AreMade O.meaning O.words_of (O.effect object.now) memory.items ∥₁ },
+    ghost remembered: { ∥ AreMade O.meaning O.words_of (O.effect object.now) memory.made.items ∥₁ },
     ghost told: { ∥ AreTelling seen.keys telling.items (length seen.keys) ∥₁ },
     ghost explored: { ∥ IsExplored (O.effect object.now) (calls_in scripts.now) (O.opening object.now) (all_kept O.meaning seen) ∥₁ },
 }

@@ -21,6 +21,9 @@ use wf_history::KeptCall;
 use wf_order::Object;
 use wf_order::keys::Keys;
 
+/// For how many configurations there is room from the beginning at most.
+const FIRST_ROOM: usize = 1 << 16;
+
 /// Why an exploration gives up.
 #[derive(Clone, Copy, Debug, Error)]
 pub enum ExploreFault {
@@ -71,9 +74,9 @@ fn advance<'a, O: Object>(
     requires place { place < index_set_len seen.old }
     requires process { process < length task.now.scripts.now }
     requires worded { AreWorded O.meaning O.words_of seen.old }
-    requires memory { AreMade O.meaning O.words_of (O.effect task.now.object.now) memory.old.items }
+    requires memory { AreMade O.meaning O.words_of (O.effect task.now.object.now) memory.old.made.items }
     requires exploring { IsExploring (O.effect task.now.object.now) (calls_in task.now.scripts.now) (O.opening task.now.object.now) (all_kept O.meaning seen.old) place process }
-    ensures memory { OnOk result (AreMade O.meaning O.words_of (O.effect task.now.object.now) memory.new.items) }
+    ensures memory { OnOk result (AreMade O.meaning O.words_of (O.effect task.now.object.now) memory.new.made.items) }
     ensures worded { IfOk result (λ _. AreWorded O.meaning O.words_of seen.new) }
     ensures grown { IfOk result (λ _. index_set_len seen.old ≤ index_set_len seen.new) }
     ensures exploring { IfOk result (λ _. IsExploring (O.effect task.now.object.now) (calls_in task.now.scripts.now) (O.opening task.now.object.now)
@@ -94,9 +97,9 @@ fn expand<'a, O: Object>(
 ) -> Result<(), NoMemory>
     requires place { place < index_set_len seen.old }
     requires worded { AreWorded O.meaning O.words_of seen.old }
-    requires memory { AreMade O.meaning O.words_of (O.effect task.now.object.now) memory.old.items }
+    requires memory { AreMade O.meaning O.words_of (O.effect task.now.object.now) memory.old.made.items }
     requires exploring { IsExploring (O.effect task.now.object.now) (calls_in task.now.scripts.now) (O.opening task.now.object.now) (all_kept O.meaning seen.old) place 0 }
-    ensures memory { OnOk result (AreMade O.meaning O.words_of (O.effect task.now.object.now) memory.new.items) }
+    ensures memory { OnOk result (AreMade O.meaning O.words_of (O.effect task.now.object.now) memory.new.made.items) }
     ensures worded { IfOk result (λ _. AreWorded O.meaning O.words_of seen.new) }
     ensures exploring { IfOk result (λ _. IsExploring (O.effect task.now.object.now) (calls_in task.now.scripts.now) (O.opening task.now.object.now)
         (all_kept O.meaning seen.new) (place + 1) 0) }
@@ -127,13 +130,39 @@ fn start_of<O: Object>(task: &Task<O>) -> Result<Found<O::State>, NoMemory>
     })
 }
 
-/// The start alone is found.
-fn begin<O: Object>(task: &Task<O>, keys: RandomState) -> Result<Seen<O::State>, NoMemory>
+/// How many calls the longest script has.
+fn longest(scripts: &[Vec<KeptCall>]) -> usize {
+    let mut most = 0;
+    for script in scripts {
+        most = script.len().max(most);
+    }
+    most
+}
+
+/// For how many configurations there is room from the beginning: as many as there are counts of calls made, since each of them is reached
+/// unless the exploration gives up before; no more than `most`, nor than a number.
+fn first_room(scripts: &[Vec<KeptCall>], most: usize) -> usize {
+    let mut room = 1_usize;
+    for script in scripts {
+        room = room
+            .saturating_mul(script.len().saturating_add(1))
+            .min(FIRST_ROOM);
+    }
+    room.min(most)
+}
+
+/// The start alone is found, where so many may be.
+fn begin<O: Object>(
+    task: &Task<O>,
+    most: usize,
+    keys: RandomState,
+) -> Result<Seen<O::State>, NoMemory>
     ensures worded { IfOk result (AreWorded O.meaning O.words_of) }
     ensures one { IfOk result (λ seen. index_set_len seen ≡ 1) }
     ensures exploring { IfOk result (λ seen. IsExploring (O.effect task.now.object.now) (calls_in task.now.scripts.now) (O.opening task.now.object.now) (all_kept O.meaning seen) 0 0) }
 {
-    let mut seen = Seen::with_hasher(task.alloc, Keys::new(keys));
+    let room = first_room(task.scripts, most);
+    let mut seen = Seen::with_capacity_and_hasher(task.alloc, room, Keys::new(keys))?;
     let first = start_of(task)?;
     arrive(task.object, &mut seen, first)?;
     Ok(seen)
@@ -161,7 +190,7 @@ pub fn explore<'a, O: Object>(
         object,
         scripts,
     };
-    let mut seen = begin(&task, keys)?;
+    let mut seen = begin(&task, most, keys)?;
     if most == 0 {
         return Err(ExploreFault::TooMany);
     }
@@ -174,7 +203,7 @@ pub fn explore<'a, O: Object>(
         }
         place += 1;
     }
-    let telling = telling_places(alloc, &seen)?;
+    let telling = telling_places(alloc, &seen, longest(scripts))?;
     Ok(Explored {
         object,
         scripts,

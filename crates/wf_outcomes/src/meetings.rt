@@ -18,15 +18,22 @@ const MARKS: u64 = 1 << 16;
 struct Meetings {
     places: Vec<usize>,
     marks: Vec<usize>,
+    /// For how many calls of a process a state has rows.
+    stride: u64,
 }
 
-/// Where it is marked that the next call of a process met the state.
+/// The first row of a configuration's state. The words of integers that are not negative are multiples of eight, and so the rows of small ones
+/// stand close together.
 #[inline(always)]
-fn row_of<S>(here: &Found<S>, process: usize) -> usize {
-    let state = here.kept.as_ref().row;
-    let call = state
-        .wrapping_mul(31)
-        .wrapping_add(count_at(here, process) as u64);
+fn first_row<S>(here: &Found<S>, stride: u64) -> u64 {
+    let row = here.kept.as_ref().row;
+    ((row >> 3 << 1) | (row & 1)).wrapping_mul(stride)
+}
+
+/// Where it is marked that the next call of a process met the state that has this first row.
+#[inline(always)]
+fn row_of<S>(here: &Found<S>, first: u64, process: usize) -> usize {
+    let call = first.wrapping_add(count_at(here, process) as u64);
     let row = call
         .wrapping_mul(here.counts.len() as u64)
         .wrapping_add(process as u64);
@@ -126,8 +133,9 @@ fn meet<S: Drop>(seen: &Seen<S>, meetings: &mut Meetings, place: usize) -> Resul
     ensures marks { OnOk result (AreMarks meetings.new.marks.items meetings.new.places.items) }
 {
     let here = &seen[place];
+    let first = first_row(here, meetings.stride);
     for process in 0..here.counts.len() {
-        let row = row_of(here, process);
+        let row = row_of(here, first, process);
         if !is_met(seen, meetings, row, here, process) {
             note(meetings, row, place)?;
         }
@@ -135,13 +143,23 @@ fn meet<S: Drop>(seen: &Seen<S>, meetings: &mut Meetings, place: usize) -> Resul
     Ok(())
 }
 
-/// Places at which the next call of each process meets each state that it meets at any: all replies are to be seen there.
-pub(crate) fn telling_places<S: Drop>(alloc: Global, seen: &Seen<S>) -> Result<Vec<usize>, NoMemory>
+/// Places at which the next call of each process meets each state that it meets at any: all replies are to be seen there. No process has more
+/// calls than `most`.
+pub(crate) fn telling_places<S: Drop>(
+    alloc: Global,
+    seen: &Seen<S>,
+    most: usize,
+) -> Result<Vec<usize>, NoMemory>
     ensures { IfOk result (λ places. AreTelling seen.now.keys places.items (length seen.now.keys)) }
 {
     let places = Vec::new(alloc);
     let marks = Vec::new(alloc);
-    let mut meetings = Meetings { places, marks };
+    let stride = (most as u64).wrapping_add(1);
+    let mut meetings = Meetings {
+        places,
+        marks,
+        stride,
+    };
     for place in 0..seen.len() {
         meet(seen, &mut meetings, place)?;
     }

@@ -1,9 +1,9 @@
 //! Calls that were made, so that few are made twice.
 
-ghost use Rattle.std.specs.Prelude.{◌≡◌, ◌<◌, length, slice_set, Some, IfOk, IfSome, OnOk, IsTrue};
+ghost use Rattle.std.specs.Prelude.{◌≡◌, [], IfOk, IfSome, OnOk, IsTrue};
 ghost use Rattle.ob_interface.specs.View.{reply_of};
 ghost use Rattle.wf_history.specs.View.{kept_call};
-ghost use Rattle.wf_outcomes.specs.RememberedCalls.{AreMade, IsAfter, IsMade, IsNothing, IsRecalled, IsStated};
+ghost use Rattle.wf_outcomes.specs.RememberedCalls.{AreMade, IsAfter, IsMade, IsRecalled, IsRemembered, IsStated};
 ghost use Rattle.wf_outcomes.specs.Outcomes.{Answers};
 
 use crate::seen::{Stated, row_of_words};
@@ -20,6 +20,9 @@ use wf_order::Object;
 /// How many calls are remembered at most, as a power of 2.
 const ROW_BITS: u32 = 10;
 
+/// What stands at a row where no call was made.
+const NOWHERE: u16 = u16::MAX;
+
 /// An odd number that spreads a row's number over its upper bits.
 const SPREAD: u64 = 0x9E37_79B9_7F4A_7C15;
 
@@ -32,19 +35,21 @@ pub struct Made<'a, S> {
     pub(crate) reply: Reply,
 }
 
-/// Calls that were made, each at the row of its state and call, where it stands until another one comes there.
-pub type Memory<'a, S> = Vec<Option<Made<'a, S>>>;
+/// Calls that were made. Each is found by the row of its state and call, where it stands until another one comes there.
+#[derive(Drop)]
+pub struct Memory<'a, S> {
+    /// Of each row, where the call that stands there is among those that were made.
+    rows: Vec<u16>,
+    pub(crate) made: Vec<Made<'a, S>>,
+}
 
 /// No call is remembered.
 pub(crate) fn nothing_made<'a, S: Drop>(alloc: Global) -> Result<Memory<'a, S>, NoMemory>
-    ensures { IfOk result (λ memory. IsNothing memory.items) }
+    ensures { IfOk result (λ memory. memory.made.items ≡ []) }
 {
-    let rows = 1_usize << ROW_BITS;
-    let mut memory = Vec::with_capacity(alloc, rows)?;
-    for _ in 0..rows {
-        memory.push(None)?;
-    }
-    Ok(memory)
+    let rows = Vec::from_elem(alloc, NOWHERE, 1_usize << ROW_BITS)?;
+    let made = Vec::new(alloc);
+    Ok(Memory { rows, made })
 }
 
 /// A scalar as a number.
@@ -119,19 +124,26 @@ fn is_made_so<S>(made: &Made<'_, S>, before: &Stated<S>, call: &KeptCall) -> boo
     is_same_call(made.call, call)
 }
 
+/// Where the call that stands at a row is among those that were made.
+#[inline(always)]
+fn place_at<S>(memory: &Memory<'_, S>, row: usize) -> usize {
+    match memory.rows.as_slice().get(row) {
+        Some(place) => *place as usize,
+        None => NOWHERE as usize,
+    }
+}
+
 /// The call on a state as it was made before, if that is remembered.
 #[inline(always)]
 fn recalled<'m, 'a, S>(
-    memory: &'m [Option<Made<'a, S>>],
+    memory: &'m Memory<'a, S>,
     before: &Stated<S>,
     call: &KeptCall,
 ) -> Option<&'m Made<'a, S>>
-    ensures { IfSome result (λ made. IsRecalled memory.now before.now call.now made.now) }
+    ensures { IfSome result (λ made. IsRecalled memory.now.made.items before.now call.now made.now) }
 {
-    let Some(slot) = memory.get(row_of(before, call)) else {
-        return None;
-    };
-    let Some(made) = slot else {
+    let place = place_at(memory, row_of(before, call));
+    let Some(made) = memory.made.as_slice().get(place) else {
         return None;
     };
     if !is_made_so(made, before, call) {
@@ -165,12 +177,30 @@ fn made_now<'a, O: Object>(
     })
 }
 
-/// A call is remembered.
-fn remember<'a, S: Drop>(memory: &mut Memory<'a, S>, row: usize, made: Made<'a, S>)
-    requires { row < length memory.old.items }
-    ensures { memory.new.items ≡ slice_set memory.old.items row (Some made.entry) }
+/// The place that a row stands for from now on.
+fn place_row(rows: &mut Vec<u16>, row: usize, place: usize) {
+    if row < rows.len() {
+        rows[row] = place as u16;
+    }
+}
+
+/// A call is remembered at a row, in the place of the one that stands there, or behind all.
+fn remember<'a, S: Drop>(
+    memory: &mut Memory<'a, S>,
+    row: usize,
+    made: Made<'a, S>,
+) -> Result<(), NoMemory>
+    ensures { OnOk result (IsRemembered memory.old.made.items memory.new.made.items made.entry) }
 {
-    memory[row] = Some(made);
+    let place = place_at(&*memory, row);
+    let many = memory.made.len();
+    if place < many {
+        memory.made[place] = made;
+        return Ok(());
+    }
+    memory.made.push(made)?;
+    place_row(&mut memory.rows, row, many);
+    Ok(())
 }
 
 /// What a call makes of a state. Where it is not remembered, it is made, and remembered now.
@@ -181,21 +211,17 @@ pub(crate) fn after<'a, O: Object>(
     call: &'a KeptCall,
 ) -> Result<Rc<Stated<O::State>>, NoMemory>
     requires before { IsStated O.meaning O.words_of before.now.value }
-    requires memory { AreMade O.meaning O.words_of (O.effect task.now.object.now) memory.old.items }
-    ensures memory { OnOk result (AreMade O.meaning O.words_of (O.effect task.now.object.now) memory.new.items) }
+    requires memory { AreMade O.meaning O.words_of (O.effect task.now.object.now) memory.old.made.items }
+    ensures memory { OnOk result (AreMade O.meaning O.words_of (O.effect task.now.object.now) memory.new.made.items) }
     ensures after { IfOk result (λ after. IsAfter O.meaning O.words_of (O.effect task.now.object.now) (kept_call call.now) before.now.value after.value) }
 {
-    if let Some(made) = recalled(memory.as_slice(), before.as_ref(), call) {
+    if let Some(made) = recalled(&*memory, before.as_ref(), call) {
         let known = made.after.clone()?;
         return Ok(known);
     }
-    let row = row_of(before.as_ref(), call);
     let made = made_now(task, before, call)?;
     let after = made.after.clone()?;
-    if row >= memory.len() {
-        return Ok(after);
-    }
-    remember(memory, row, made);
+    remember(memory, row_of(before.as_ref(), call), made)?;
     Ok(after)
 }
 
@@ -212,12 +238,12 @@ fn copied(alloc: Global, reply: &Reply) -> Result<Reply, AllocError>
 /// What a call answers on a state, as it is remembered, or as it is made now.
 pub(crate) fn reply_to<O: Object>(
     task: &Task<'_, O>,
-    memory: &[Option<Made<'_, O::State>>],
+    memory: &Memory<'_, O::State>,
     before: &Stated<O::State>,
     call: &KeptCall,
 ) -> Result<Reply, NoMemory>
     requires before { IsStated O.meaning O.words_of before.now }
-    requires memory { ∥ AreMade O.meaning O.words_of (O.effect task.now.object.now) memory.now ∥₁ }
+    requires memory { ∥ AreMade O.meaning O.words_of (O.effect task.now.object.now) memory.now.made.items ∥₁ }
     ensures { IfOk result (λ reply. ∥ Answers (O.effect task.now.object.now) (kept_call call.now) (reply_of reply) (O.meaning before.now.state) ∥₁) }
 {
     if let Some(made) = recalled(memory, before, call) {

@@ -95,12 +95,12 @@ pub(crate) fn step<'a, O: Object>(
 ) -> Result<Option<Found<O::State>>, NoMemory>
     requires process { process < length here.now.counts.items }
     requires words { IsWorded O.meaning O.words_of here.now }
-    requires memory { AreMade O.meaning O.words_of (O.effect task.now.object.now) memory.old.items }
+    requires memory { AreMade O.meaning O.words_of (O.effect task.now.object.now) memory.old.made.items }
     ensures only { IfOk result (λ stepped. MatchOption stepped (HasNoStep (O.effect task.now.object.now) (calls_in task.now.scripts.now) (kept_in O.meaning here.now).here process)
         (λ to. IsOnlyStep (O.effect task.now.object.now) (calls_in task.now.scripts.now) (kept_in O.meaning here.now).here process (kept_in O.meaning to).here)) }
     ensures origin { IfOk result (λ stepped. IfSome stepped (λ to. (to.from ≡ place) × (to.by ≡ process))) }
     ensures words { IfOk result (λ stepped. IfSome stepped (IsWorded O.meaning O.words_of)) }
-    ensures memory { OnOk result (AreMade O.meaning O.words_of (O.effect task.now.object.now) memory.new.items) }
+    ensures memory { OnOk result (AreMade O.meaning O.words_of (O.effect task.now.object.now) memory.new.made.items) }
 {
     let Some(call) = next_call(task.scripts, &here.counts, process) else {
         return Ok(None);

@@ -10,7 +10,7 @@ use Rattle.wf_outcomes.proofs.exploring.begin.Goals as goal
 
 pub arrive-requires-clause-worded : goal.arrive-requires-clause-worded
 arrive-requires-clause-worded g c = λ f there.
-    let none = nil_from_length c.with_hasher-seen.result.keys c.with_hasher-seen.ensures.len in
+    let none = nil_from_length c.in_ok-seen.seen.keys c.in_ok-seen.ensures.len in
     let p = place_of [] f (subst (λ (l : List (Found g.row.O-State.Denot)). Contains l f) none there) in
     let e = p.1 in absurd (cc)
 
@@ -18,6 +18,6 @@ pub returns-clause-exploring : goal.returns-clause-exploring
 returns-clause-exploring g c =
     let view = kept_in g.O.Object.meaning in
     let task = c.args.task.now in
-    let none = ap (map view) (nil_from_length c.with_hasher-seen.result.keys c.with_hasher-seen.ensures.len) in
+    let none = ap (map view) (nil_from_length c.in_ok-seen.seen.keys c.in_ok-seen.ensures.len) in
     begun_by (g.O.Object.effect task.object.now) (calls_in task.scripts.now) (g.O.Object.opening task.object.now) (view c.in_ok-first.first) c.in_ok-first.ensures.start
-    (all_kept g.O.Object.meaning c.with_hasher-seen.result) none (all_kept g.O.Object.meaning c.arrive.new.seen) c.in_ok-arrive.ensures.found
+    (all_kept g.O.Object.meaning c.in_ok-seen.seen) none (all_kept g.O.Object.meaning c.arrive.new.seen) c.in_ok-arrive.ensures.found

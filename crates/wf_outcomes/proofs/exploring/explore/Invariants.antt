@@ -8,7 +8,7 @@ use Rattle.wf_outcomes.proofs.exploring.explore.Given as goal
 abbrev pub invariant-loop-place : goal.invariant-loop-place
 invariant-loop-place g l = record {
   worded : AreWorded g.O.Object.meaning g.O.Object.words_of l.seen;
-  memory : AreMade g.O.Object.meaning g.O.Object.words_of (g.O.Object.effect l.task.object.now) l.memory.items;
+  memory : AreMade g.O.Object.meaning g.O.Object.words_of (g.O.Object.effect l.task.object.now) l.memory.made.items;
   few : index_set_len l.seen ≤ l.most;
   exploring : IsExploring (g.O.Object.effect l.task.object.now) (calls_in l.task.scripts.now) (g.O.Object.opening l.task.object.now) (all_kept g.O.Object.meaning l.seen) l.place 0;
 }

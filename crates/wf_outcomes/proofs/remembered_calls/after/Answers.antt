@@ -12,19 +12,13 @@ returns-in-Some-clause-after g c =
     let meaning = g.O.Object.meaning in
     let words_of = g.O.Object.words_of in
     let effect = g.O.Object.effect c.args.task.now.object.now in
-    let are = subst (λ (rows : List (Option (Made g.row.O-State.Denot))). AreMade meaning words_of effect rows) (sym c.as_slice.ensures.value) c.requires.memory in
     let is = subst (λ (s : Stated g.row.O-State.Denot). IsStated meaning words_of s) (sym c.as_ref.ensures) c.requires.before in
     subst (λ (s : Stated g.row.O-State.Denot). IsAfter meaning words_of effect (kept_call c.args.call.now) s c.in_ok-known.known.value) c.as_ref.ensures
-    (recalled_after meaning words_of effect (λ a b. g.met.O.Object.told_apart a b) c.as_slice.result.now are c.as_ref.result.now is c.args.call.now c.in-Some.made.now c.in-Some.ensures c.in_ok-known.known.value c.in_ok-known.ensures.cases)
-
-pub returns-then-row-len-clause-after : goal.returns-then-row-len-clause-after
-returns-then-row-len-clause-after g c =
-    made_after g.O.Object.meaning g.O.Object.words_of (g.O.Object.effect c.args.task.now.object.now) c.args.before.now.value c.args.call.now c.in_ok-made.made c.in_ok-made.ensures.made c.in_ok-made.ensures.before c.in_ok-made.ensures.call
-    c.in_ok-after.after.value c.in_ok-after.ensures.cases
+    (recalled_after meaning words_of effect (λ a b. g.met.O.Object.told_apart a b) c.args.memory.now.made.items c.requires.memory c.as_ref.result.now is c.args.call.now c.in-Some.made.now c.in-Some.ensures c.in_ok-known.known.value c.in_ok-known.ensures.cases)
 
 pub returns-clause-memory : goal.returns-clause-memory
 returns-clause-memory g c =
-    still_made g.O.Object.meaning g.O.Object.words_of (g.O.Object.effect c.args.task.now.object.now) c.args.memory.now.items c.remember.new.memory.items c.requires.memory c.row_of-row.result c.in_ok-made.made c.in_ok-made.ensures.made c.remember.ensures
+    still_made g.O.Object.meaning g.O.Object.words_of (g.O.Object.effect c.args.task.now.object.now) c.args.memory.now.made.items c.remember.new.memory.made.items c.requires.memory c.in_ok-made.made c.in_ok-made.ensures.made c.in_ok-remember.ensures
 
 pub returns-clause-after : goal.returns-clause-after
 returns-clause-after g c =
