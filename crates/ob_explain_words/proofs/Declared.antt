@@ -8,8 +8,8 @@ use Rattle.ob_scan.specs.declared.token.Kind.{Kind}
 use Rattle.ob_scan.specs.declared.token.Kind.TheVariants as Kinds
 use Rattle.ob_scan.specs.declared.token.Token.{Token}
 use Rattle.ob_explain_tokens.specs.Kinds.{is_colon, is_comma, is_name}
-use Rattle.ob_explain_words.specs.Declaring.{Declares, IsDeclaredAt, IsListed, IsWord, are_equations, is_before_equal, is_in_equations, is_procedure, last_kind}
-use Rattle.ob_explain_words.specs.Declaring.{leads, leads_one, leads_there, ends, goes_on, procedure, equation, listed}
+use Rattle.ob_explain_words.specs.Declaring.{BeginsEquation, Declares, IsDeclaredAt, IsListed, IsWord, are_equations, is_in_equations, last_kind}
+use Rattle.ob_explain_words.specs.Declaring.{leads, leads_there, ends, goes_on, procedure, equation, listed}
 
 -- ---- lists of names
 
@@ -124,29 +124,32 @@ of_declares text word tokens d =
 
 -- ---- one name
 
-pub procedure_there : (before ts : List Token) (last : Option Kind) → is_procedure last ≡ true → last ≡ last_kind before → IsTrue true ↔ IsDeclaredAt before ts
-procedure_there before ts last is e = (λ h. procedure (sym (ap is_procedure e) ∙ is), λ d. refl)
+pub procedure_there : (before ts : List Token) (last : Option Kind) → last ≡ Some Kinds.Procedure → last ≡ last_kind before → IsTrue true ↔ IsDeclaredAt before ts
+procedure_there before ts last is e = (λ h. procedure (sym e ∙ is), λ d. refl)
 
-both_of : (a b : Bool) → (a && b) ≡ true → (a ≡ true) × (b ≡ true)
-both_of true b h = (refl, h)
-both_of false b h = absurd (false≢true h)
+-- the same behind these tokens, whose last one is of the kind
+begins_behind : (before ts : List Token) (last : Option Kind) (equations : Bool) → last ≡ last_kind before → equations ≡ is_in_equations before →
+    BeginsEquation last equations ts → BeginsEquation (last_kind before) (is_in_equations before) ts
+begins_behind before ts last equations e f is =
+    subst (λ (k : Option Kind). BeginsEquation k (is_in_equations before) ts) e (subst (λ (b : Bool). BeginsEquation last b ts) f is)
 
-pub equation_there : (before ts : List Token) (last : Option Kind) (equations : Bool) → (equations && (leads_one last && is_before_equal ts)) ≡ true →
+begins_before : (before ts : List Token) (last : Option Kind) (equations : Bool) → last ≡ last_kind before → equations ≡ is_in_equations before →
+    BeginsEquation (last_kind before) (is_in_equations before) ts → BeginsEquation last equations ts
+begins_before before ts last equations e f is =
+    subst (λ (k : Option Kind). BeginsEquation k equations ts) (sym e) (subst (λ (b : Bool). BeginsEquation (last_kind before) b ts) (sym f) is)
+
+pub equation_there : (before ts : List Token) (last : Option Kind) (equations : Bool) → BeginsEquation last equations ts →
     last ≡ last_kind before → equations ≡ is_in_equations before → IsTrue true ↔ IsDeclaredAt before ts
-equation_there before ts last equations is e f =
-    let h = both_of equations (leads_one last && is_before_equal ts) is in
-    let k = both_of (leads_one last) (is_before_equal ts) h.1 in
-    (λ g. equation (sym f ∙ h.0) (sym (ap leads_one e) ∙ k.0) k.1, λ d. refl)
+equation_there before ts last equations is e f = (λ h. equation (begins_behind before ts last equations e f is), λ d. refl)
 
-only_listed : (before ts : List Token) (last : Option Kind) (equations : Bool) → is_procedure last ≡ false →
-    (equations && (leads_one last && is_before_equal ts)) ≡ false → last ≡ last_kind before → equations ≡ is_in_equations before → IsDeclaredAt before ts → IsListed ts
-only_listed before ts last equations other none e f (procedure is) = absurd (false≢true (sym other ∙ ap is_procedure e ∙ is))
-only_listed before ts last equations other none e f (equation in_them led equal) =
-    absurd (false≢true (sym none ∙ ap (λ b. b && (leads_one last && is_before_equal ts)) (f ∙ in_them) ∙ ap (λ b. b && is_before_equal ts) (ap leads_one e ∙ led) ∙ equal))
+only_listed : (before ts : List Token) (last : Option Kind) (equations : Bool) → (last ≡ Some Kinds.Procedure → ⊥) →
+    (BeginsEquation last equations ts → ⊥) → last ≡ last_kind before → equations ≡ is_in_equations before → IsDeclaredAt before ts → IsListed ts
+only_listed before ts last equations other none e f (procedure is) = absurd (other (e ∙ is))
+only_listed before ts last equations other none e f (equation is) = absurd (none (begins_before before ts last equations e f is))
 only_listed before ts last equations other none e f (listed l) = l
 
-pub listed_there : (before ts : List Token) (last : Option Kind) (equations is : Bool) → is_procedure last ≡ false →
-    (equations && (leads_one last && is_before_equal ts)) ≡ false → last ≡ last_kind before → equations ≡ is_in_equations before →
+pub listed_there : (before ts : List Token) (last : Option Kind) (equations is : Bool) → (last ≡ Some Kinds.Procedure → ⊥) →
+    (BeginsEquation last equations ts → ⊥) → last ≡ last_kind before → equations ≡ is_in_equations before →
     IsTrue is ↔ IsListed ts → IsTrue is ↔ IsDeclaredAt before ts
 listed_there before ts last equations is other none e f h = (λ t. listed (h.0 t), λ d. h.1 (only_listed before ts last equations other none e f d))
 

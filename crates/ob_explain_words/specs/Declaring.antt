@@ -38,16 +38,11 @@ abbrev pub last_kind : (before : List Token) → Option Kind
 last_kind [] = None
 last_kind (t ∷ rest) = Some t.kind
 
-abbrev pub is_procedure : Option Kind → Bool
-is_procedure (Some Kinds.Procedure) = true
-is_procedure _ = false
-
 -- one of these declarations begins behind CONST, TYPE and `;`
-abbrev pub leads_one : Option Kind → Bool
-leads_one (Some Kinds.Const) = true
-leads_one (Some Kinds.«Type») = true
-leads_one (Some Kinds.Semicolon) = true
-leads_one _ = false
+pub data LeadsOne : Option Kind → Type 0 where
+  const : LeadsOne (Some Kinds.Const)
+  type : LeadsOne (Some Kinds.«Type»)
+  semicolon : LeadsOne (Some Kinds.Semicolon)
 
 -- ---- lists of names
 
@@ -64,21 +59,22 @@ pub record IsWord (text word : List ℕ) (t : Token) : Type 0 where
   pub name : is_name t.kind ≡ true
   pub bytes : token_bytes text t ≡ word
 
-abbrev pub is_equal : Kind → Bool
-is_equal Kinds.Equal = true
-is_equal _ = false
-
 -- a `=` stands behind the first of tokens
-abbrev pub is_before_equal : List Token → Bool
-is_before_equal (t ∷ u ∷ rest) = is_equal u.kind
-is_before_equal _ = false
+abbrev pub IsBeforeEqual : List Token → Type 0
+IsBeforeEqual tokens = (t : Token) × (u : Token) × (rest : List Token) × (tokens ≡ t ∷ u ∷ rest) × (u.kind ≡ Kinds.Equal)
+
+-- the declaration of a constant or of a type begins with tokens, behind a token of this kind where they are declared, or not
+pub record BeginsEquation (last : Option Kind) (equations : Bool) (tokens : List Token) : Type 0 where
+  pub in_them : equations ≡ true
+  pub led : LeadsOne last
+  pub equal : IsBeforeEqual tokens
 
 -- The name with which tokens begin is declared there, behind others that go back: as that of a procedure behind PROCEDURE, as that of a
 -- constant or of a type before a `=` where such a declaration begins, and as that of a variable, of a parameter or of a field in a list
 -- before a `:`.
 pub data IsDeclaredAt (before tokens : List Token) : Type 0 where
-  procedure : is_procedure (last_kind before) ≡ true → IsDeclaredAt before tokens
-  equation : is_in_equations before ≡ true → leads_one (last_kind before) ≡ true → is_before_equal tokens ≡ true → IsDeclaredAt before tokens
+  procedure : last_kind before ≡ Some Kinds.Procedure → IsDeclaredAt before tokens
+  equation : BeginsEquation (last_kind before) (is_in_equations before) tokens → IsDeclaredAt before tokens
   listed : IsListed tokens → IsDeclaredAt before tokens
 
 -- it is declared behind any tokens of which the last is of this kind, and behind which constants and types are declared or not

@@ -1,7 +1,8 @@
 //! Which names a text declares, whether it is a module or not: by its tokens alone.
 
-ghost use Rattle.std.specs.Prelude.{◌≡◌, ◌↔◌, ◌&&◌, IsTrue};
-ghost use Rattle.ob_explain_words.specs.Declaring.{Declares, IsListed, IsWord, TellsDeclared, TellsEquations, is_before_equal, is_procedure, leads_one};
+ghost use Rattle.std.specs.Prelude.{◌≡◌, ◌↔◌, IsTrue, Some};
+ghost use Rattle.ob_explain_words.specs.Declaring.{BeginsEquation, Declares, IsBeforeEqual, IsListed, IsWord, LeadsOne, TellsDeclared, TellsEquations};
+ghost use Rattle.ob_scan.specs.declared.token.Kind.TheVariants as Kinds;
 
 use ob_explain_names::declarations::token_bytes;
 use ob_explain_tokens::operand_tokens::{is_colon, is_comma, is_name};
@@ -47,27 +48,41 @@ fn is_declared_at(last: Option<Kind>, equations: bool, tokens: &[Token]) -> bool
 }
 
 fn is_procedure(last: Option<Kind>) -> bool
-    ensures { result ≡ is_procedure last }
+    ensures { IsTrue result ↔ (last ≡ Some Kinds.Procedure) }
 {
     matches!(last, Some(Kind::Procedure))
 }
 
 /// Whether the declaration of a constant or of a type begins with these tokens.
 fn begins_equation(last: Option<Kind>, equations: bool, tokens: &[Token]) -> bool
-    ensures { result ≡ (equations && (leads_one last && is_before_equal tokens.now)) }
+    ensures { IsTrue result ↔ BeginsEquation last equations tokens.now }
 {
     equations && (leads_one(last) && is_before_equal(tokens))
 }
 
 fn leads_one(last: Option<Kind>) -> bool
-    ensures { result ≡ leads_one last }
+    ensures { IsTrue result ↔ LeadsOne last }
 {
-    matches!(last, Some(Kind::Const | Kind::Type | Kind::Semicolon))
+    match last {
+        Some(kind) => leads_declaration(kind),
+        None => false,
+    }
+}
+
+fn leads_declaration(kind: Kind) -> bool
+    ensures { IsTrue result ↔ LeadsOne (Some kind) }
+{
+    match kind {
+        Kind::Const => true,
+        Kind::Type => true,
+        Kind::Semicolon => true,
+        _ => false,
+    }
 }
 
 /// Whether a `=` stands behind the first of tokens.
 fn is_before_equal(tokens: &[Token]) -> bool
-    ensures { result ≡ is_before_equal tokens.now }
+    ensures { IsTrue result ↔ IsBeforeEqual tokens.now }
 {
     match tokens {
         [_, second, ..] => matches!(second.kind, Kind::Equal),
