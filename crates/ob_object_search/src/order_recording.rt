@@ -32,7 +32,7 @@ use ob_text_record::{Record, write_record};
 use std::alloc::{AllocError, Global};
 use thiserror::Error;
 use wf_history::{CallId, History};
-use wf_order::counted_processes;
+use wf_order::process_count;
 
 /// Why there is no record.
 #[derive(Clone, Copy, Debug, Error)]
