@@ -179,8 +179,8 @@ fn made_now<'a, O: Object>(
 
 /// The place that a row stands for from now on.
 fn place_row(rows: &mut Vec<u16>, row: usize, place: usize) {
-    if row < rows.len() {
-        rows[row] = place as u16;
+    if let (Some(slot), Ok(place)) = (rows.as_mut_slice().get_mut(row), u16::try_from(place)) {
+        *slot = place;
     }
 }
 

@@ -34,7 +34,7 @@ reply_at-requires-clause-words g c =
 pub reply_at-requires-clause-memory : goal.reply_at-requires-clause-memory
 reply_at-requires-clause-memory g c =
     let self = c.args.self.now in
-    subst (λ (rows : List (Option (Made g.row.O-State.Denot))). ∥ AreMade g.O.Object.meaning g.O.Object.words_of (g.O.Object.effect self.object.now) rows ∥₁) (sym c.deref.ensures.value) self.remembered
+    self.remembered
 
 pub loop-row-init : goal.loop-row-init
 loop-row-init g c =
