@@ -1,5 +1,5 @@
 -- The replies so far, and those of one more configuration.
-use Rattle.std.proofs.Common.{◌≡◌, sym, ap, ◌∙◌, subst, ℕ, ◌+◌, length, get_or, map, option_map, List, Option, Some, Vec, Global, arith}
+use Rattle.std.proofs.Common.{◌≡◌, sym, ap, ◌∙◌, subst, ℕ, ◌+◌, length, get_or, map, option_map, List, Some, Vec, Global, arith}
 use Rattle.std.proofs.Math.Bridge.{le_prop}
 use Rattle.std.proofs.Math.Logic.{∥∥₁_elim, ∥∥₁_map}
 use Rattle.std.proofs.Props.{props}
@@ -11,8 +11,6 @@ use Rattle.wf_outcomes.specs.declared.call_replies.Possible.{Possible}
 use Rattle.wf_outcomes.specs.Explored.{kept_in, all_kept, calls_in}
 use Rattle.wf_outcomes.specs.Outcomes.{HasNoReply, IsOnlyReply}
 use Rattle.wf_outcomes.specs.Possible.{had_in}
-use Rattle.wf_outcomes.specs.RememberedCalls.{AreMade}
-use Rattle.wf_outcomes.specs.declared.remembered_calls.Made.{Made}
 use Rattle.wf_outcomes.proofs.Meeting.{are_told}
 use Rattle.wf_outcomes.proofs.Replying.{AreSoFar, none_so_far, no_reply, one_reply, all_replies}
 use Rattle.wf_outcomes.proofs.explored.Explored.replies_of.Goals as goal
