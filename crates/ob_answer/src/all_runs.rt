@@ -8,12 +8,12 @@ ghost use Rattle.ob_answer_explained.specs.CommandTexts.{calls_of_text, calls_te
 ghost use Rattle.ob_answer_files.specs.Reads.{OfWhole};
 ghost use Rattle.ob_command.specs.Commands.{calls_request_of};
 
-use ob_answer_explained::shown_faults::values_wrong;
 use ob_answer_explained::asked_texts::{Calls, bytes_or_none, calls_with};
 use ob_answer_explained::record_opening::values_in;
+use ob_answer_explained::shown_faults::values_wrong;
 use ob_answer_files::answered::Answer;
-use ob_answer_files::files::Files;
 use ob_answer_files::file_reading::{CallsBytes, CallsFiles, read_calls};
+use ob_answer_files::files::Files;
 use ob_answer_searches::always_explained::explain_always;
 use ob_answer_searches::outcomes_answers::{Looking, answer_outcomes};
 use ob_answer_searches::whole_answers::answer_whole_outcomes;

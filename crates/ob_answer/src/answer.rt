@@ -22,8 +22,8 @@ use crate::text_answers::{
     answer_bound, answer_check, answer_draw_seen, answer_list, answer_verify,
 };
 use ob_answer_files::answered::Answer;
-use ob_answer_files::files::{FileFault, Files};
 use ob_answer_files::file_reading::{MODULE_BYTES, TwoFiles, read_two, unreadable};
+use ob_answer_files::files::{FileFault, Files};
 use ob_answer_searches::history_drawing::{HistoryDrawing, answer_draw_history};
 use ob_answer_searches::order_answers::answer_order;
 use ob_answer_searches::outcomes_answers::Looking;

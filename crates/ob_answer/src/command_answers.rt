@@ -12,15 +12,17 @@ use crate::text_answers::{
     answer_picture, answer_record, answer_seq, answer_serve, answer_state, answer_steps,
     answer_told, answer_tree_record,
 };
+use ob_answer_explained::asked_texts::{Calls, Run, bytes_or_none, calls_with, run_with};
 use ob_answer_explained::explaining::explain_calls;
 use ob_answer_explained::explaining_runs::explain_run;
 use ob_answer_explained::explaining_traps::explain_traps;
-use ob_answer_explained::shown_faults::values_wrong;
-use ob_answer_explained::asked_texts::{Calls, Run, bytes_or_none, calls_with, run_with};
 use ob_answer_explained::record_opening::values_in;
+use ob_answer_explained::shown_faults::values_wrong;
 use ob_answer_files::answered::Answer;
+use ob_answer_files::file_reading::{
+    CallsBytes, CallsFiles, RunBytes, RunFiles, read_calls, read_run,
+};
 use ob_answer_files::files::Files;
-use ob_answer_files::file_reading::{CallsBytes, CallsFiles, RunBytes, RunFiles, read_calls, read_run};
 use ob_command::command::{CallsCommand, RunCommand};
 use ob_interface::NoMemory;
 use std::alloc::Global;

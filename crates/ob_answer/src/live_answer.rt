@@ -11,14 +11,14 @@ ghost use Rattle.ob_object_compile.specs.Compilation as Compiles;
 ghost use Rattle.ob_object_compile.specs.View.{asked_of, beginning_of};
 
 use crate::answer::{INPUT_TWICE, are_inputs_of_calls};
-use ob_answer_explained::shown_faults::values_wrong;
 use ob_answer_explained::asked_texts::{bytes_or_none, calls_with};
 use ob_answer_explained::record_opening::values_in;
+use ob_answer_explained::shown_faults::values_wrong;
 use ob_answer_files::answered::{Answer, refused};
-use ob_answer_files::files::{FileFault, Files};
 use ob_answer_files::file_reading::{
     CallsBytes, CallsFiles, MODULE_BYTES, TwoFiles, read_two, unreadable,
 };
+use ob_answer_files::files::{FileFault, Files};
 use ob_command::command::CallsCommand;
 use ob_fault_lines::compile_faults::compile_fault_line;
 use ob_interface::NoMemory;

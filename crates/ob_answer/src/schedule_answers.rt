@@ -8,8 +8,10 @@ ghost use Rattle.ob_command.specs.Commands.{chance_request_of, run_request_of};
 use crate::command_answers::answer_run;
 use crate::printed_forms::Product;
 use ob_answer_files::answered::Answer;
+use ob_answer_files::file_reading::{
+    CallsBytes, CallsFiles, RunBytes, RunFiles, read_calls, read_run,
+};
 use ob_answer_files::files::Files;
-use ob_answer_files::file_reading::{CallsBytes, CallsFiles, RunBytes, RunFiles, read_calls, read_run};
 use ob_command::command::{ChanceCommand, RunCommand, RunProduct};
 use ob_interface::NoMemory;
 use ob_text_scripts::chance::schedule_by_chance;
