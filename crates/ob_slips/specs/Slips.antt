@@ -96,12 +96,13 @@ is_other_keyword word =
 abbrev pub is_lowered : (word : List ℕ) → Bool
 is_lowered word = not (list_all is_ascii_uppercase word) && (is_small_keyword word || is_other_keyword word)
 
--- where the last word of some bytes begins, behind which only blanks stand
-abbrev pub word_before : List ℕ → List ℕ
-word_before bytes = take_while is_ascii_alphanumeric (reverse (take (shown_place bytes (length bytes)) bytes))
+-- the letters and digits at the end of some bytes, the last one first
+abbrev pub last_word : List ℕ → List ℕ
+last_word bytes = take_while is_ascii_alphanumeric (reverse bytes)
 
+-- where the last word of some bytes begins, behind which only blanks stand
 abbrev pub last_word_place : List ℕ → ℕ
-last_word_place bytes = shown_place bytes (length bytes) - length (word_before bytes)
+last_word_place bytes = shown_place bytes (length bytes) - length (last_word (take (shown_place bytes (length bytes)) bytes))
 
 abbrev pub or_else : Option Mending → Option Mending → Option Mending
 or_else None other = other

@@ -1,11 +1,11 @@
 //! Which slips are known, by what stands at a fault of a text.
 
-ghost use Rattle.std.specs.Prelude.{◌≡◌};
+ghost use Rattle.std.specs.Prelude.{◌≡◌, length};
 ghost use Rattle.std.specs.Char.{is_ascii_uppercase};
 ghost use Rattle.std.specs.List.{list_all};
 ghost use Rattle.ob_slips.specs.Slips.{begins_part, behind_line_feed, is_further, is_in_capitals, is_lowered, is_misspelt, is_off, is_other_keyword};
-ghost use Rattle.ob_slips.specs.Slips.{is_small_keyword, keyword_mending, last_word_place, mending_at, mending_of, meant_for_byte, meant_for_line};
-ghost use Rattle.ob_slips.specs.Slips.{meant_for_pair, meant_for_sign, or_else, token_mending};
+ghost use Rattle.ob_slips.specs.Slips.{is_small_keyword, keyword_mending, last_word, last_word_place, mending_at, mending_of, meant_for_byte};
+ghost use Rattle.ob_slips.specs.Slips.{meant_for_line, meant_for_pair, meant_for_sign, or_else, token_mending};
 
 use crate::mending::{Meant, Mending, origin, put, taken};
 use ob_check::TextFault;
@@ -62,12 +62,18 @@ pub(crate) fn last_word_place(bytes: &[u8]) -> usize
 {
     let end = shown_place(bytes, bytes.len());
     let (words, _) = halves(bytes, end);
-    let length = words
+    end.saturating_sub(last_length(words))
+}
+
+/// How many letters and digits stand at the end of some bytes.
+fn last_length(bytes: &[u8]) -> usize
+    ensures { result ≡ length (last_word bytes.now) }
+{
+    bytes
         .iter()
         .rev()
         .take_while(|byte| byte.is_ascii_alphanumeric())
-        .count();
-    end.saturating_sub(length)
+        .count()
 }
 
 /// The mending of a word, where it is a keyword in small letters.
