@@ -5,7 +5,6 @@ use Rattle.ob_explain_names.specs.declared.known.Known.{Known}
 use Rattle.ob_explain_tokens.specs.Around.{AreTokens}
 use Rattle.ob_explain_tokens.specs.Around as Tokens
 use Rattle.ob_explain_words.specs.declared.distance.Candidate.{Candidate}
-use Rattle.ob_evidence.specs.Names.{near_name}
 use Rattle.ob_evidence.specs.Sites.{IsScene, Scene, word}
 use Rattle.ob_slips.specs.WordMendings.{renaming}
 use Rattle.ob_slips.proofs.word_mending.near_mending.Goals as goal

@@ -1,7 +1,7 @@
 use Rattle.std.proofs.Common.{◌≡◌, ℕ, List, Option, drop, take, subst, ap, ◌∙◌}
 use Rattle.ob_messages.specs.Words.{word_at}
 use Rattle.ob_scan.specs.declared.token.Token.{Token}
-use Rattle.ob_slips.specs.Slips.{last_word_place, or_else, token_mending}
+use Rattle.ob_slips.specs.Slips.{last_word_place, token_mending}
 use Rattle.ob_slips.specs.WordMendings.{IsKeywordMending}
 use Rattle.ob_slips.specs.declared.mending.Mending.{Mending}
 use Rattle.ob_slips.proofs.word_mending.unexpected_mending.Goals as goal
