@@ -8,7 +8,11 @@ ghost use Rattle.ob_messages.specs.Remarks.{remark_of};
 ghost use Rattle.ob_messages.specs.Said.{evidence_of};
 
 use ob_evidence::facts::facts_of;
+use ob_evidence::names::leads_to_statement;
 use ob_evidence::text_site::{Site, kind_of};
+use ob_explain_names::lookup::name_at;
+use ob_explain_tokens::around::{tokens_before, tokens_of};
+use ob_explain_tokens::open::open_construct;
 use ob_explain_words::declaring::declares;
 use ob_messages::matcher::View;
 use ob_messages::place::{halves, shown_place};
@@ -135,6 +139,7 @@ pub(crate) fn plain_remark(
     ensures { IfOk result (λ remark. Tells (scene_of site.now) number (remark_of remark)) }
 {
     let (before, from) = halves(site.text, site.place);
+    let in_case = is_behind_case(alloc, before)?;
     let facts = facts_of(
         alloc,
         &[
@@ -142,7 +147,7 @@ pub(crate) fn plain_remark(
             (ends_number(before), Fact::BehindDigits),
             (ends_with_minus(before), Fact::BehindMinus),
             (awaits_type(before), Fact::TypeAwaited),
-            (is_behind_case(before), Fact::BehindCase),
+            (in_case, Fact::BehindCase),
         ],
     )?;
     told(alloc, site, number, &of_facts(&facts), &nothing())
@@ -164,14 +169,22 @@ fn awaits_type(before: &[u8]) -> bool {
         || before.ends_with(b" OF")
 }
 
-/// Whether a word CASE stands among some bytes.
-fn is_behind_case(before: &[u8]) -> bool {
-    for at in 0..before.len() {
-        if halves(before, at).1.starts_with(b" CASE ") {
-            return true;
+/// Whether a statement begins with the name CASE in the construct that is open at the end of a text.
+fn is_behind_case(alloc: Global, text: &[u8]) -> Result<bool, AllocError> {
+    let tokens = tokens_of(alloc, text)?;
+    let before = tokens_before(alloc, &tokens, text.len())?;
+    let begin = match open_construct(&before) {
+        Some(opening) => opening.start,
+        None => 0,
+    };
+    let mut is_case = false;
+    for token in &before {
+        if is_case && leads_to_statement(token.kind) {
+            return Ok(true);
         }
+        is_case = begin < token.start && name_at(text, token.start) == b"CASE".as_slice();
     }
-    false
+    Ok(false)
 }
 
 /// Whether the first of some bytes is no ASCII.

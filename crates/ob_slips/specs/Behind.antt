@@ -1,12 +1,13 @@
 -- What is told behind a fault of a module's text that comes of a slip.
-use Rattle.std.specs.Prelude.{◌≡◌, ℕ, nat_lt, true, false, List, [], ◌∷◌, ◌++◌, Option, None, Some, codes, length, if◌then◌else◌}
+use Rattle.std.specs.Prelude.{◌≡◌, ◌⊎◌, ◌<◌, ◌≤◌, ℕ, true, false, List, [], ◌∷◌, ◌++◌, Option, None, Some, codes, length}
 use Rattle.ob_check.specs.CheckedText.{IsNumberedText, IsTextFault}
 use Rattle.ob_check.specs.declared.module_text.TextFault.{TextFault}
 use Rattle.ob_messages.specs.Explanations.{explanation}
 use Rattle.ob_messages.specs.Remarks.{Remark}
-use Rattle.ob_slips.specs.Mendings.{mended, origin_in, phrase}
+use Rattle.ob_slips.specs.Mendings.{mended, mending_text, origin_in}
+use Rattle.ob_slips.specs.WordMendings.{IsMending}
 use Rattle.ob_slips.specs.Remarks.{IsTextRemark}
-use Rattle.ob_slips.specs.Slips.{is_further, mending_of}
+use Rattle.ob_slips.specs.Slips.{is_further}
 use Rattle.ob_slips.specs.declared.mending.Mending.{Mending}
 use Rattle.ob_slips.specs.declared.stage.Stage as Rust
 use Rattle.ob_typing.specs.ModuleText.{IsModule}
@@ -50,8 +51,8 @@ IsVerdict text (Some e) = Finds text e
 -- ---- what is told
 
 -- Of each fault that comes of a slip the mending; of at most nine, so that there are at most ten faults.
-abbrev pub next_mending : Stage → TextFault → Option Mending
-next_mending s e = if nat_lt (length s.mendings) 9 then mending_of s.text e else None
+abbrev pub IsNextMending : Stage → TextFault → Option Mending → Type 0
+IsNextMending s e m = ((length s.mendings < 9) × IsMending s.text e m) ⊎ ((9 ≤ length s.mendings) × (m ≡ None))
 
 -- what is said of the text with the mendings, at its place in the module's own text
 abbrev pub shown_own : Stage → Option Remark → List ℕ
@@ -59,20 +60,20 @@ shown_own s None = []
 shown_own s (Some r) =
     explanation s.name s.own (record { place = origin_in s.mendings r.place; sentence = r.sentence; hint = r.hint })
 
--- the fault of the text with the mendings, of which this is the last
-pub record IsNext (s : Stage) (last : Mending) (e : TextFault) (told : List ℕ) : Type 0 where
+-- the fault of the text with the mendings, of which this is the last, of the text before it
+pub record IsNext (s : Stage) (before : List ℕ) (last : Mending) (e : TextFault) (told : List ℕ) : Type 0 where
   pub remark : Option Remark
   pub remarked : IsTextRemark s.text e remark
-  pub is : told ≡ phrase last.meant ++ codes ", the next fault is:\n" ++ shown_own s remark
+  pub is : told ≡ mending_text before last.meant ++ codes ", the next fault is:\n" ++ shown_own s remark
 
 -- What is told behind a fault of a text. Where it is no slip, or ten faults are told, nothing. Else it is mended: then the text is right;
 -- or the fault stays, and it was no slip; or the text has a further fault, which is told, and what is told behind that one.
 pub data IsTold : Stage → TextFault → (told : List ℕ) → Type 0 where
-  ends : {s : Stage} {e : TextFault} → next_mending s e ≡ None → IsTold s e []
-  rights : {s : Stage} {e : TextFault} (m : Mending) → next_mending s e ≡ Some m → IsRight (mended s.text m)
-      → IsTold s e (phrase m.meant ++ codes ", the text has no other fault\n")
-  stays : {s : Stage} {e : TextFault} (m : Mending) (f : TextFault) → next_mending s e ≡ Some m → Finds (mended s.text m) f
+  ends : {s : Stage} {e : TextFault} → IsNextMending s e None → IsTold s e []
+  rights : {s : Stage} {e : TextFault} (m : Mending) → IsNextMending s e (Some m) → IsRight (mended s.text m)
+      → IsTold s e (mending_text s.text m.meant ++ codes ", the text has no other fault\n")
+  stays : {s : Stage} {e : TextFault} (m : Mending) (f : TextFault) → IsNextMending s e (Some m) → Finds (mended s.text m) f
       → is_further m f ≡ false → IsTold s e []
-  goes_on : {s : Stage} {e : TextFault} (m : Mending) (f : TextFault) (next behind : List ℕ) → next_mending s e ≡ Some m
-      → Finds (mended s.text m) f → is_further m f ≡ true → IsNext (mended_stage m s) m f next → IsTold (mended_stage m s) f behind
+  goes_on : {s : Stage} {e : TextFault} (m : Mending) (f : TextFault) (next behind : List ℕ) → IsNextMending s e (Some m)
+      → Finds (mended s.text m) f → is_further m f ≡ true → IsNext (mended_stage m s) s.text m f next → IsTold (mended_stage m s) f behind
       → IsTold s e (next ++ behind)

@@ -1,11 +1,15 @@
 -- Mendings of a text: at a place a few bytes are taken out, and what is meant is put there.
-use Rattle.std.specs.Prelude.{ℕ, ◌-◌, ◌==◌, nat_lt, List, ◌++◌, codes, drop, length, map, take, if◌then◌else◌}
+use Rattle.std.specs.Prelude.{ℕ, ◌-◌, ◌==◌, nat_lt, List, [], ◌++◌, codes, drop, length, map, take, if◌then◌else◌}
+use Rattle.std.specs.Char.{to_ascii_uppercase}
 use Rattle.std.specs.List.{fold}
+use Rattle.ob_explain_words.specs.Distance.{bytes_of}
+use Rattle.ob_explain_words.specs.declared.distance.Named.{Named}
+use Rattle.ob_messages.specs.Shown.{shown_byte}
 use Rattle.ob_slips.specs.declared.mending.Meant.{Meant}
 use Rattle.ob_slips.specs.declared.mending.Meant.TheVariants as Means
 use Rattle.ob_slips.specs.declared.mending.Mending.{Mending}
 
--- how many bytes are taken out: those of what was written by mistake
+-- how many bytes are taken out: those of what was written by mistake; a word has its own length
 abbrev pub taken : Meant → ℕ
 taken Means.Semicolon = 0
 taken Means.Assign = 1
@@ -22,9 +26,11 @@ taken Means.AtLeast = 2
 taken Means.AtMost = 2
 taken Means.Arrow = 2
 taken Means.Letter = 1
+taken Means.Capitals = 0
+taken (Means.Name named) = 0
 
--- What is put there. It has no line feed, so that each line stays where it is, and no fewer bytes than are taken out; a word stands
--- between blanks.
+-- What is put there. It has no line feed, so that each line stays where it is, and no fewer bytes than are taken out; an operator of
+-- letters stands between blanks. A keyword and a name come of the text.
 abbrev pub put : Meant → List ℕ
 put Means.Semicolon = codes ";"
 put Means.Assign = codes ":="
@@ -41,8 +47,10 @@ put Means.AtLeast = codes ">="
 put Means.AtMost = codes "<="
 put Means.Arrow = codes ":="
 put Means.Letter = codes "x"
+put Means.Capitals = []
+put (Means.Name named) = []
 
--- how it is told
+-- how it is told, where that doesn't go by the text
 abbrev pub phrase : Meant → List ℕ
 phrase Means.Semicolon = codes "with a ; before it"
 phrase Means.Assign = codes "with := in its place"
@@ -59,10 +67,34 @@ phrase Means.AtLeast = codes "with >= for =>"
 phrase Means.AtMost = codes "with <= for =<"
 phrase Means.Arrow = codes "with := for <-"
 phrase Means.Letter = codes "with a letter for each _"
+phrase Means.Capitals = codes "with the keyword in capitals"
+phrase (Means.Name named) = codes "with another name in its place"
+
+-- a name is told itself
+abbrev pub name_text : (text : List ℕ) → Named → List ℕ
+name_text text named = codes "with " ++ map shown_byte (bytes_of text named) ++ codes " in its place"
+
+abbrev pub mending_text : (text : List ℕ) → Meant → List ℕ
+mending_text text (Means.Name named) = name_text text named
+mending_text text meant = phrase meant
 
 -- `x = 1` with `:=` at 2 is `x := 1`
-abbrev pub spliced : List ℕ → Mending → List ℕ
-spliced text m = take m.place text ++ put m.meant ++ drop (taken m.meant) (drop m.place text)
+abbrev pub spliced : List ℕ → Mending → (bytes : List ℕ) → List ℕ
+spliced text m bytes = take m.place text ++ bytes ++ drop m.taken (drop m.place text)
+
+-- with the word there in capitals: `begin` is BEGIN
+abbrev pub capitalised : List ℕ → Mending → List ℕ
+capitalised text m = spliced text m (map to_ascii_uppercase (take m.taken (drop m.place text)))
+
+-- with a name in place of the word there, and blanks for the letters that the word has more
+abbrev pub blank_for : ℕ → ℕ
+blank_for b = 32
+
+abbrev pub blanks_behind : (name word : List ℕ) → List ℕ
+blanks_behind name word = map blank_for (drop (length name) word)
+
+abbrev pub renamed : List ℕ → Mending → Named → List ℕ
+renamed text m named = spliced text m (bytes_of text named ++ blanks_behind (bytes_of text named) (take m.taken (drop m.place text)))
 
 -- a letter for `_`, and each other byte as it is
 abbrev pub letter_for : ℕ → ℕ
@@ -71,23 +103,21 @@ letter_for b = if b == 95 then 120 else b
 -- What is meant stands at its place alone, but a letter stands for each `_` of the text, since a name has it wherever it stands.
 abbrev pub mended_by : Meant → List ℕ → Mending → List ℕ
 mended_by Means.Letter text m = map letter_for text
-mended_by meant text m = spliced text m
+mended_by Means.Capitals text m = capitalised text m
+mended_by (Means.Name named) text m = renamed text m named
+mended_by meant text m = spliced text m (put meant)
 
 -- the text with a mending
 abbrev pub mended : List ℕ → Mending → List ℕ
 mended text m = mended_by m.meant text m
-
--- by how many bytes the text grows
-abbrev pub growth : Meant → ℕ
-growth meant = length (put meant) - taken meant
 
 -- Where a place of the mended text stands in the text: before the mending as it is, in what is put there at the mending's place, and
 -- behind that by so many bytes less as the text has grown. Of `x := 1` above, 5 stands at 4, and 3 at 2.
 abbrev pub origin : Mending → ℕ → ℕ
 origin m at =
     if nat_lt at m.place then at
-    else if nat_lt (at - m.place) (length (put m.meant)) then m.place
-    else at - growth m.meant
+    else if nat_lt (at - m.place) m.put then m.place
+    else at - (m.put - m.taken)
 
 -- through several mendings, each of the text with those behind it in the list
 abbrev pub origin_in : List Mending → ℕ → ℕ

@@ -2,14 +2,15 @@
 
 ghost use Rattle.std.specs.Prelude.{◌≡◌, ◌∷◌, ◌++◌, IfOk, codes, option_map, string_bytes};
 ghost use Rattle.ob_messages.specs.Remarks.{remark_of};
-ghost use Rattle.ob_slips.specs.Behind.{IsNext, IsTold, next_mending, own_stage, shown_own, stage_of};
-ghost use Rattle.ob_slips.specs.Mendings.{phrase};
+ghost use Rattle.ob_slips.specs.Behind.{IsNext, IsNextMending, IsTold, own_stage, shown_own, stage_of};
+ghost use Rattle.ob_slips.specs.Mendings.{mending_text};
 
-use crate::mending::{Mending, mended, origin_in, phrase};
-use crate::slip::{is_further, mending_of};
+use crate::mending::{Mending, mended, mending_text, origin_in};
+use crate::slip::is_further;
 use crate::slip_remark::text_remark;
 use crate::stage::Stage;
 use crate::verdict::verdict;
+use crate::word_mending::slip_mending;
 use ob_check::TextFault;
 use ob_messages::explanation::explanation;
 use ob_messages::remark::Remark;
@@ -40,12 +41,12 @@ pub fn told_behind(
 fn told_on(alloc: Global, stage: Stage<'_>, fault: TextFault) -> Result<String, AllocError>
     ensures { IfOk result (λ told. IsTold (stage_of stage.entry) fault (string_bytes told)) }
 {
-    let Some(mending) = next_mending(stage, fault) else {
+    let Some(mending) = next_mending(alloc, stage, fault)? else {
         return Ok(String::new(alloc));
     };
     let text = mended(alloc, stage.text, mending)?;
     let Some(next) = verdict(alloc, &text)? else {
-        return all_right(alloc, mending);
+        return all_right(alloc, stage.text, mending);
     };
     if !is_further(mending, next) {
         return Ok(String::new(alloc));
@@ -57,20 +58,24 @@ fn told_on(alloc: Global, stage: Stage<'_>, fault: TextFault) -> Result<String, 
         text: &text,
         mendings: &mendings,
     };
-    let mut told = told_next(alloc, further, mending, next)?;
+    let mut told = told_next(alloc, further, stage.text, mending, next)?;
     let behind = told_on(alloc, further, next)?;
     told.push_str(behind.as_str())?;
     Ok(told)
 }
 
 /// The mending of a fault of the text with mendings, if it comes of a slip and may be mended.
-fn next_mending(stage: Stage<'_>, fault: TextFault) -> Option<Mending>
-    ensures { result ≡ next_mending (stage_of stage.entry) fault }
+fn next_mending(
+    alloc: Global,
+    stage: Stage<'_>,
+    fault: TextFault,
+) -> Result<Option<Mending>, AllocError>
+    ensures { IfOk result (IsNextMending (stage_of stage.entry) fault) }
 {
     if stage.mendings.len() < MOST_MENDINGS {
-        mending_of(stage.text, fault)
+        slip_mending(alloc, stage.text, fault)
     } else {
-        None
+        Ok(None)
     }
 }
 
@@ -88,25 +93,26 @@ fn with_mending(
     Ok(all)
 }
 
-/// That the text with a mending, and those before it, is right.
-fn all_right(alloc: Global, mending: Mending) -> Result<String, AllocError>
-    ensures { IfOk result (λ told. string_bytes told ≡ phrase mending.meant ++ codes ", the text has no other fault\n") }
+/// That a text with a mending, and those before it, is right.
+fn all_right(alloc: Global, text: &[u8], mending: Mending) -> Result<String, AllocError>
+    ensures { IfOk result (λ told. string_bytes told ≡ mending_text text.now mending.meant ++ codes ", the text has no other fault\n") }
 {
-    let mut told = String::from_str(alloc, phrase(mending.meant))?;
+    let mut told = mending_text(alloc, text, mending.meant)?;
     told.push_str(", the text has no other fault\n")?;
     Ok(told)
 }
 
-/// The fault of the text with mendings, of which this is the last.
+/// The fault of the text with mendings, of which this is the last, of a text before it.
 fn told_next(
     alloc: Global,
     stage: Stage<'_>,
+    before: &[u8],
     last: Mending,
     fault: TextFault,
 ) -> Result<String, AllocError>
-    ensures { IfOk result (λ told. IsNext (stage_of stage.entry) last fault (string_bytes told)) }
+    ensures { IfOk result (λ told. IsNext (stage_of stage.entry) before.now last fault (string_bytes told)) }
 {
-    let mut told = String::from_str(alloc, phrase(last.meant))?;
+    let mut told = mending_text(alloc, before, last.meant)?;
     told.push_str(", the next fault is:\n")?;
     let remark = text_remark(alloc, stage.text, fault)?;
     told.push_str(shown_own(alloc, stage, remark)?.as_str())?;

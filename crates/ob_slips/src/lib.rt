@@ -1,4 +1,4 @@
-//! Slips of one token in a module's text, and the faults behind them: those that the text has where the slips before them are mended.
+//! Slips of one token, or in a name or a keyword, in a module's text, and the faults behind them: those that the text has where the slips before them are mended.
 //!
 //! One may rely on a fault that is told being that of the mended text, at its place in the module's own text. Which slips are known,
 //! and the words, may change without asking.
@@ -10,6 +10,7 @@ pub mod slip;
 pub mod slip_remark;
 pub mod stage;
 mod verdict;
+pub mod word_mending;
 
 pub use behind::told_behind;
 pub use slip_remark::text_remark;

@@ -1,13 +1,16 @@
 //! Mendings of a text, and where the places of the mended text stand in it.
 
-ghost use Rattle.std.specs.Prelude.{◌≡◌, IfOk, map};
-ghost use Rattle.ob_slips.specs.Mendings.{letter_for, mended, origin, origin_in, phrase, put, spliced, taken};
+ghost use Rattle.std.specs.Prelude.{◌≡◌, IfOk, map, string_bytes};
+ghost use Rattle.std.specs.Char.{to_ascii_uppercase};
+ghost use Rattle.ob_slips.specs.Mendings.{blank_for, capitalised, letter_for, mended, mending_text, name_text, origin, origin_in, phrase, put, renamed, spliced, taken};
 
+use ob_explain_words::distance::{Named, bytes_of};
 use ob_messages::place::halves;
+use ob_messages::shown::push_line;
 use std::alloc::{AllocError, Global};
 
 /// What is meant where a slip stands.
-#[derive(Clone, Copy, PartialEq, Eq)]
+#[derive(Clone, Copy)]
 pub enum Meant {
     /// A `;` that is missing there.
     Semicolon,
@@ -31,13 +34,19 @@ pub enum Meant {
     Arrow,
     /// A letter, where `_` stands, there and elsewhere.
     Letter,
+    /// The keyword, where it stands in small letters.
+    Capitals,
+    /// A name of the language or of the text, where a word stands that is near to it.
+    Name(Named),
 }
 
-/// A mending of a slip at a place.
+/// A mending of a slip at a place: how many bytes it takes out, and how many it puts there.
 #[derive(Clone, Copy)]
 pub struct Mending {
     pub place: usize,
     pub meant: Meant,
+    pub taken: usize,
+    pub put: usize,
 }
 
 /// The text with a mending.
@@ -46,7 +55,9 @@ pub fn mended(alloc: Global, text: &[u8], mending: Mending) -> Result<Vec<u8>, A
 {
     match mending.meant {
         Meant::Letter => lettered(alloc, text),
-        _ => spliced(alloc, text, mending),
+        Meant::Capitals => capitalised(alloc, text, mending),
+        Meant::Name(named) => renamed(alloc, text, mending, named),
+        _ => spliced(alloc, text, mending, put(mending.meant)),
     }
 }
 
@@ -68,14 +79,76 @@ fn letter_for(byte: u8) -> u8
     if byte == b'_' { b'x' } else { byte }
 }
 
-/// The text with what is meant at the place alone.
-fn spliced(alloc: Global, text: &[u8], mending: Mending) -> Result<Vec<u8>, AllocError>
-    ensures { IfOk result (λ whole. whole.items ≡ spliced text.now mending) }
+/// The text with the word at the place in capitals.
+fn capitalised(alloc: Global, text: &[u8], mending: Mending) -> Result<Vec<u8>, AllocError>
+    ensures { IfOk result (λ whole. whole.items ≡ capitalised text.now mending) }
+{
+    let (_, from) = halves(text, mending.place);
+    let (word, _) = halves(from, mending.taken);
+    let word = capitals(alloc, word)?;
+    spliced(alloc, text, mending, &word)
+}
+
+/// A word in capitals.
+fn capitals(alloc: Global, word: &[u8]) -> Result<Vec<u8>, AllocError>
+    ensures { IfOk result (λ whole. whole.items ≡ map to_ascii_uppercase word.now) }
+{
+    let mut whole = Vec::new(alloc);
+    for byte in word {
+        whole.push(byte.to_ascii_uppercase())?;
+    }
+    Ok(whole)
+}
+
+/// The text with a name in place of the word there, and blanks for the letters that the word has more.
+fn renamed(
+    alloc: Global,
+    text: &[u8],
+    mending: Mending,
+    named: Named,
+) -> Result<Vec<u8>, AllocError>
+    ensures { IfOk result (λ whole. whole.items ≡ renamed text.now mending named) }
+{
+    let name = bytes_of(text, named);
+    let (_, from) = halves(text, mending.place);
+    let (word, _) = halves(from, mending.taken);
+    let (_, more) = halves(word, name.len());
+    let blanks = blanks(alloc, more)?;
+    let mut put = Vec::from_slice(alloc, name)?;
+    put.extend_from_slice(&blanks)?;
+    spliced(alloc, text, mending, &put)
+}
+
+/// A blank for each of some bytes.
+fn blanks(alloc: Global, bytes: &[u8]) -> Result<Vec<u8>, AllocError>
+    ensures { IfOk result (λ whole. whole.items ≡ map blank_for bytes.now) }
+{
+    let mut whole = Vec::new(alloc);
+    for byte in bytes {
+        whole.push(blank_for(*byte))?;
+    }
+    Ok(whole)
+}
+
+fn blank_for(_byte: u8) -> u8
+    ensures { result ≡ blank_for _byte }
+{
+    b' '
+}
+
+/// The text with these bytes at the place alone.
+fn spliced(
+    alloc: Global,
+    text: &[u8],
+    mending: Mending,
+    bytes: &[u8],
+) -> Result<Vec<u8>, AllocError>
+    ensures { IfOk result (λ whole. whole.items ≡ spliced text.now mending bytes.now) }
 {
     let (before, from) = halves(text, mending.place);
-    let (_, behind) = halves(from, taken(mending.meant));
+    let (_, behind) = halves(from, mending.taken);
     let mut whole = Vec::from_slice(alloc, before)?;
-    whole.extend_from_slice(put(mending.meant))?;
+    whole.extend_from_slice(bytes)?;
     whole.extend_from_slice(behind)?;
     Ok(whole)
 }
@@ -95,18 +168,17 @@ pub fn origin_in(mendings: &[Mending], at: usize) -> usize
 pub fn origin(mending: Mending, at: usize) -> usize
     ensures { result ≡ origin mending at }
 {
-    let put = put(mending.meant).len();
     if at < mending.place {
         at
-    } else if at - mending.place < put {
+    } else if at - mending.place < mending.put {
         mending.place
     } else {
-        at - put.saturating_sub(taken(mending.meant))
+        at - mending.put.saturating_sub(mending.taken)
     }
 }
 
-/// How many bytes a mending takes out.
-fn taken(meant: Meant) -> usize
+/// How many bytes a mending takes out; none of a word, which has its own length.
+pub(crate) fn taken(meant: Meant) -> usize
     ensures { result ≡ taken meant }
 {
     match meant {
@@ -125,11 +197,13 @@ fn taken(meant: Meant) -> usize
         Meant::AtMost => 2,
         Meant::Arrow => 2,
         Meant::Letter => 1,
+        Meant::Capitals => 0,
+        Meant::Name(_) => 0,
     }
 }
 
-/// What it puts there.
-fn put(meant: Meant) -> &'static [u8]
+/// What it puts there; nothing for a word, which comes of the text.
+pub(crate) fn put(meant: Meant) -> &'static [u8]
     ensures { result.now ≡ put meant }
 {
     match meant {
@@ -148,10 +222,32 @@ fn put(meant: Meant) -> &'static [u8]
         Meant::AtMost => b"<=",
         Meant::Arrow => b":=",
         Meant::Letter => b"x",
+        Meant::Capitals => b"",
+        Meant::Name(_) => b"",
     }
 }
 
-/// How a mending is told.
+/// How a mending of a text is told.
+pub fn mending_text(alloc: Global, text: &[u8], meant: Meant) -> Result<String, AllocError>
+    ensures { IfOk result (λ told. string_bytes told ≡ mending_text text.now meant) }
+{
+    match meant {
+        Meant::Name(named) => name_text(alloc, text, named),
+        _ => String::from_str(alloc, phrase(meant)),
+    }
+}
+
+/// The same of a name.
+fn name_text(alloc: Global, text: &[u8], named: Named) -> Result<String, AllocError>
+    ensures { IfOk result (λ told. string_bytes told ≡ name_text text.now named) }
+{
+    let mut told = String::from_str(alloc, "with ")?;
+    push_line(&mut told, bytes_of(text, named))?;
+    told.push_str(" in its place")?;
+    Ok(told)
+}
+
+/// How a mending is told, where that doesn't go by the text.
 pub fn phrase(meant: Meant) -> &'static str
     ensures { result.now ≡ phrase meant }
 {
@@ -171,5 +267,7 @@ pub fn phrase(meant: Meant) -> &'static str
         Meant::AtMost => "with <= for =<",
         Meant::Arrow => "with := for <-",
         Meant::Letter => "with a letter for each _",
+        Meant::Capitals => "with the keyword in capitals",
+        Meant::Name(_) => "with another name in its place",
     }
 }

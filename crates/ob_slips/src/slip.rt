@@ -1,12 +1,13 @@
 //! Which slips are known, by what stands at a fault of a text.
 
-ghost use Rattle.std.specs.Prelude.{◌≡◌};
+ghost use Rattle.std.specs.Prelude.{◌≡◌, length};
 ghost use Rattle.std.specs.Char.{is_ascii_uppercase};
 ghost use Rattle.std.specs.List.{list_all};
-ghost use Rattle.ob_slips.specs.Slips.{begins_part, behind_line_feed, is_further, is_in_capitals, is_misspelt, is_off, is_small_keyword};
-ghost use Rattle.ob_slips.specs.Slips.{mending_at, mending_of, meant_for_byte, meant_for_pair, meant_for_token};
+ghost use Rattle.ob_slips.specs.Slips.{begins_part, behind_line_feed, is_further, is_in_capitals, is_lowered, is_misspelt, is_off, is_other_keyword};
+ghost use Rattle.ob_slips.specs.Slips.{is_small_keyword, keyword_mending, last_word, last_word_place, mending_at, mending_of, meant_for_byte};
+ghost use Rattle.ob_slips.specs.Slips.{meant_for_line, meant_for_pair, meant_for_sign, or_else, token_mending};
 
-use crate::mending::{Meant, Mending, origin};
+use crate::mending::{Meant, Mending, origin, put, taken};
 use ob_check::TextFault;
 use ob_messages::first_word::{is_same, is_same_in_any_case, word_at};
 use ob_messages::place::{halves, shown_place};
@@ -24,12 +25,70 @@ pub fn mending_of(text: &[u8], fault: TextFault) -> Option<Mending>
         }
         TextFault::Parse(ParseFault::Unexpected(place)) => {
             let (before, from) = halves(text, place);
-            match meant_for_pair(before, from) {
-                Some(meant) => mending_at(place.saturating_sub(1), Some(meant)),
-                None => mending_at(place, meant_for_token(before, from)),
-            }
+            token_mending(place, before, from, None)
         }
         _ => None,
+    }
+}
+
+/// The mending where a token can't stand, between these bytes: of a sign, of a word as this says, or of a line without `;`.
+pub(crate) fn token_mending(
+    place: usize,
+    before: &[u8],
+    from: &[u8],
+    word: Option<Mending>,
+) -> Option<Mending>
+    ensures { result ≡ token_mending place before.now from.now word }
+{
+    let pair = mending_at(place.saturating_sub(1), meant_for_pair(before, from));
+    let sign = mending_at(place, meant_for_sign(before, from));
+    let line = mending_at(place, meant_for_line(before, from));
+    or_else(pair, or_else(sign, or_else(word, line)))
+}
+
+/// The one, or else the other.
+pub(crate) fn or_else(first: Option<Mending>, other: Option<Mending>) -> Option<Mending>
+    ensures { result ≡ or_else first other }
+{
+    match first {
+        Some(mending) => Some(mending),
+        None => other,
+    }
+}
+
+/// Where the last word of some bytes begins, behind which only blanks stand; the place of these, where there is none.
+pub(crate) fn last_word_place(bytes: &[u8]) -> usize
+    ensures { result ≡ last_word_place bytes.now }
+{
+    let end = shown_place(bytes, bytes.len());
+    let (words, _) = halves(bytes, end);
+    end.saturating_sub(last_length(words))
+}
+
+/// How many letters and digits stand at the end of some bytes.
+fn last_length(bytes: &[u8]) -> usize
+    ensures { result ≡ length (last_word bytes.now) }
+{
+    bytes
+        .iter()
+        .rev()
+        .take_while(|byte| byte.is_ascii_alphanumeric())
+        .count()
+}
+
+/// The mending of a word, where it is a keyword in small letters.
+pub(crate) fn keyword_mending(place: usize, word: &[u8]) -> Option<Mending>
+    ensures { result ≡ keyword_mending place word.now }
+{
+    if is_lowered(word) {
+        Some(Mending {
+            place,
+            meant: Meant::Capitals,
+            taken: word.len(),
+            put: word.len(),
+        })
+    } else {
+        None
     }
 }
 
@@ -38,7 +97,12 @@ fn mending_at(place: usize, meant: Option<Meant>) -> Option<Mending>
     ensures { result ≡ mending_at place meant }
 {
     match meant {
-        Some(meant) => Some(Mending { place, meant }),
+        Some(meant) => Some(Mending {
+            place,
+            meant,
+            taken: taken(meant),
+            put: put(meant).len(),
+        }),
         None => None,
     }
 }
@@ -83,9 +147,9 @@ fn meant_for_pair(before: &[u8], from: &[u8]) -> Option<Meant>
     }
 }
 
-/// What is meant where a token can't stand, between these bytes.
-fn meant_for_token(before: &[u8], from: &[u8]) -> Option<Meant>
-    ensures { result ≡ meant_for_token before.now from.now }
+/// What is meant where a token can't stand that is a sign, between these bytes.
+fn meant_for_sign(before: &[u8], from: &[u8]) -> Option<Meant>
+    ensures { result ≡ meant_for_sign before.now from.now }
 {
     if before.ends_with(b"=") && from.starts_with(b"=") {
         Some(Meant::OneEqual)
@@ -97,7 +161,16 @@ fn meant_for_token(before: &[u8], from: &[u8]) -> Option<Meant>
         Some(Meant::Assign)
     } else if from.starts_with(b"<-") {
         Some(Meant::Arrow)
-    } else if !from.is_empty() && behind_line_feed(before) && !is_misspelt(word_at(from)) {
+    } else {
+        None
+    }
+}
+
+/// What is meant where any token can't stand with which a line begins.
+fn meant_for_line(before: &[u8], from: &[u8]) -> Option<Meant>
+    ensures { result ≡ meant_for_line before.now from.now }
+{
+    if !from.is_empty() && behind_line_feed(before) && !is_misspelt(word_at(from)) {
         Some(Meant::Semicolon)
     } else {
         None
@@ -124,6 +197,28 @@ fn is_in_capitals(word: &[u8]) -> bool
     ensures { result ≡ is_in_capitals word.now }
 {
     word.len() > 1 && are_capital(word)
+}
+
+/// Whether a word is a keyword in which some letters are small.
+fn is_lowered(word: &[u8]) -> bool
+    ensures { result ≡ is_lowered word.now }
+{
+    !are_capital(word) && (is_small_keyword(word) || is_other_keyword(word))
+}
+
+/// Whether a word is one of the keywords that neither end nor begin a line, in any letters.
+fn is_other_keyword(word: &[u8]) -> bool
+    ensures { result ≡ is_other_keyword word.now }
+{
+    is_same_in_any_case(word, b"MODULE")
+        || is_same_in_any_case(word, b"THEN")
+        || is_same_in_any_case(word, b"DO")
+        || is_same_in_any_case(word, b"OF")
+        || is_same_in_any_case(word, b"ARRAY")
+        || is_same_in_any_case(word, b"RECORD")
+        || is_same_in_any_case(word, b"DIV")
+        || is_same_in_any_case(word, b"MOD")
+        || is_same_in_any_case(word, b"OR")
 }
 
 /// Whether all letters are capital.
