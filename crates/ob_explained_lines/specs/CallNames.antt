@@ -1,6 +1,6 @@
--- Which words of a record name a call.
+-- Which words of a record or a history name a call.
 use Rattle.std.specs.Prelude.{◌≡◌, ◌<◌, ◌+◌, ℕ, List, Option, None, Some, MatchOption, drop, option_map, slice_get}
-use Rattle.ob_interface.specs.Processes.{most_processes}
+use Rattle.ob_text_reading.specs.HistoryLines.{process_numbers}
 use Rattle.ob_text_reading.specs.RecordLines.{IsId}
 use Rattle.ob_text_words.specs.Words.{Word}
 use Rattle.wf_history.specs.declared.event.CallId.{CallId}

@@ -1,4 +1,4 @@
--- Why a line of a record can't stand where it does, by the lines before it and by the exports of the module.
+-- Why a line of a record or of a history can't stand where it does, by the lines before it and by the exports of the module.
 use Rattle.std.specs.Prelude.{◌≡◌, ◌≢◌, ◌⊎◌, ◌<◌, ◌^◌, ◌+◌, ◌-◌, ◌==◌, ◌||◌, ℕ, suc, Bool, false, List, [], ◌∷◌, ◌++◌, Option, None, Some, MatchOption, codes}
 use Rattle.std.specs.Prelude.{decimal, if◌then◌else◌, length, map, option_and_then, option_map, slice_get, string_bytes, unwrap_or}
 use Rattle.std.specs.Option.{option_map_or}
@@ -21,6 +21,7 @@ use Rattle.ob_explained_lines.specs.declared.record_line.Wanted.TheVariants as W
 use Rattle.ob_interface.specs.Export.{Signature, var_types}
 use Rattle.ob_interface.specs.View.{signature_of}
 use Rattle.ob_interface.specs.declared.scalar.ScalarType.{ScalarType}
+use Rattle.ob_text_reading.specs.HistoryLines.{process_numbers}
 use Rattle.ob_text_words.specs.ExportNames.{export_named}
 use Rattle.ob_text_values_reading.specs.Comments.{line_number}
 use Rattle.ob_text_words.specs.Words.{IsNumeral, Word, lines, words}
@@ -64,11 +65,13 @@ IsProcessCount ws count =
     MatchOption count ((word : Word) (n : ℕ) → slice_get ws 1 ≡ Some word → IsNumeral word n → n < 2 ^ 64 → ⊥)
     (λ n. (word : Word) × (slice_get ws 1 ≡ Some word) × IsNumeral word n)
 
--- how calls are named, and which processes there are
+-- how calls are named, and which processes there are: of a history all numbers that a process may have
 abbrev pub id_sentence : (processes : ℕ) → List ℕ
 id_sentence processes =
-    codes "a call is named by its process, a dot and its number, as 0.1, and by the n line "
-    ++ (if processes == 1 then codes "there is process 0 alone" else (codes "the processes are 0 to " ++ decimal (processes - 1)))
+    codes "a call is named by its process, a dot and its number, as 0.1, and "
+    ++ (if processes == process_numbers then codes "a process has at most nine digits"
+    else (if processes == 1 then codes "by the n line there is process 0 alone"
+    else (codes "by the n line the processes are 0 to " ++ decimal (processes - 1))))
 
 abbrev pub reply_sentence : List ℕ
 reply_sentence = codes "behind a call that ends stands done and the values of its parameters with VAR, or trap and 1 to 5"
@@ -215,3 +218,7 @@ module _ (object : Object) where
     pub processes : Option ℕ
     pub counted : IsProcessCount (head_words text 2) processes
     pub says : IsCountedCause text number processes cause
+
+  -- the same of a line of a history, whose processes are any numbers
+  abbrev pub IsHistoryLineCause : (text : List ℕ) (number : ℕ) → Option Cause → Type 0
+  IsHistoryLineCause text number cause = IsCountedCause text number (Some process_numbers) cause

@@ -5,9 +5,11 @@ ghost use Rattle.ob_explained_lines.specs.CallNames.{IsFirstNaming, IsNextNaming
 ghost use Rattle.ob_object_run.specs.Places.{same_id};
 ghost use Rattle.wf_history.specs.declared.event.CallId.{CallId};
 
-use ob_interface::MOST_PROCESSES;
 use ob_text_words::numbers::{read_numeral, split_digits};
 use wf_history::CallId;
+
+/// A process is a number below this: of nine digits at most. A record has fewer, by its n line.
+pub(crate) const PROCESS_NUMBERS: usize = 1_000_000_000;
 
 /// The call that a word names, `p.k`.
 pub fn call_named(word: &[u8]) -> Option<CallId>
@@ -19,7 +21,7 @@ pub fn call_named(word: &[u8]) -> Option<CallId>
     };
     let process = usize::try_from(read_numeral(digits)?).ok()?;
     let number = read_numeral(rest)?;
-    if process >= MOST_PROCESSES {
+    if process >= PROCESS_NUMBERS {
         return None;
     }
     Some(CallId { process, number })

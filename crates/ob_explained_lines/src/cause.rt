@@ -1,16 +1,17 @@
-//! Why a line of a record can't stand where it does.
+//! Why a line of a record or of a history can't stand where it does.
 
 ghost use Rattle.std.specs.Prelude.{◌≡◌, ◌↔◌, ◌<◌, ◌≤◌, ◌-◌, [], IfOk, IfSome, IsTrue, None, Option, Some, length, map, option_map, slice_get};
 ghost use Rattle.std.specs.Prelude.{string_bytes, unwrap_or};
 ghost use Rattle.ob_explain_arguments.specs.Calls.{told_of};
 ghost use Rattle.ob_explained_lines.specs.CallPlaces.{NamesNoCall};
-ghost use Rattle.ob_explained_lines.specs.Causes.{IsBeginCause, IsCallsCause, IsCountedCause, IsDoneCause, IsEndCause, IsLetter, IsLetterCause, IsLineCause};
+ghost use Rattle.ob_explained_lines.specs.Causes.{IsBeginCause, IsCallsCause, IsCountedCause, IsDoneCause, IsEndCause, IsHistoryLineCause, IsLetter, IsLetterCause, IsLineCause};
 ghost use Rattle.ob_explained_lines.specs.Causes.{IsDoneTold, IsSaidBegin, IsSaidEnd, IsOutcome, IsOutcomeCause, IsPlacedBegin, IsPlacedEnd, IsProcessCount};
 ghost use Rattle.ob_explained_lines.specs.Causes.{IsReplyCause, IsStranger, IsWordsCause, begin_told, called_by, cause_at, cause_of, done_told, has_budget, has_openings};
 ghost use Rattle.ob_explained_lines.specs.Causes.{head_words, id_sentence, line_words, object_of, reply_sentence, told_spot, trap_sentence};
 ghost use Rattle.ob_interface.specs.Export.{var_types};
 ghost use Rattle.ob_interface.specs.View.{signature_of};
 
+use crate::call_name::PROCESS_NUMBERS;
 use crate::call_place::{begin_place, call_within, ended_text, line_before, not_begun_text};
 use crate::record_line::{Wanted, split_lines};
 use ob_explain_arguments::call_line::{Told, told_call};
@@ -82,6 +83,18 @@ pub fn line_cause(
 {
     let processes = process_count(alloc, text)?;
     counted_cause(alloc, object, text, number, processes)
+}
+
+/// The same of a line of a history, of whose n line nothing is asked: a process is any number of at most nine digits.
+pub fn history_line_cause(
+    alloc: Global,
+    object: Object<'_>,
+    text: &[u8],
+    number: usize,
+) -> Result<Option<Cause>, AllocError>
+    ensures { IfOk result (λ cause. IsHistoryLineCause (object_of object.entry) text.now number (option_map cause_of cause)) }
+{
+    counted_cause(alloc, object, text, number, Some(PROCESS_NUMBERS))
 }
 
 /// How many processes there are, by the second line of the head.
@@ -246,12 +259,14 @@ fn id_sentence(alloc: Global, processes: usize) -> Result<String, AllocError>
 {
     let mut said = String::from_str(
         alloc,
-        "a call is named by its process, a dot and its number, as 0.1, and by the n line ",
+        "a call is named by its process, a dot and its number, as 0.1, and ",
     )?;
-    if processes == 1 {
-        said.push_str("there is process 0 alone")?;
+    if processes == PROCESS_NUMBERS {
+        said.push_str("a process has at most nine digits")?;
+    } else if processes == 1 {
+        said.push_str("by the n line there is process 0 alone")?;
     } else {
-        said.push_str("the processes are 0 to ")?;
+        said.push_str("by the n line the processes are 0 to ")?;
         push_number(&mut said, processes.saturating_sub(1))?;
     }
     Ok(said)

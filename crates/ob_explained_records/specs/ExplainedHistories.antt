@@ -1,8 +1,8 @@
--- What is shown of a fault of a module and a history: its place. Sentences are not spoken of here.
+-- What is shown of a fault of a module and a history: its place, and of a line whose words are the cause what is said of them.
 use Rattle.std.specs.Prelude.{◌≡◌, ◌≤◌, ◌<◌, ◌-◌, ℕ, List, ◌∷◌, Option, None, Some, MatchOption, codes, slice_get}
 use Rattle.ob_messages.specs.Remarks.{Remark}
 use Rattle.ob_explained.specs.Explained.{IsTextExplanation}
-use Rattle.ob_explained.specs.Marks.{MarksWord}
+use Rattle.ob_explained_records.specs.HistoryForms.{IsHistoryFormRemark, Marks}
 use Rattle.ob_explained.specs.Sources.{Source, shown_in}
 use Rattle.ob_object_search.specs.declared.searching.SearchFault.{SearchFault}
 use Rattle.ob_object_search.specs.declared.searching.SearchFault.TheVariants as Faults
@@ -36,20 +36,15 @@ module _ (ls : List (List ℕ)) (id : CallId) where
 abbrev pub IsEndLine : (text : List ℕ) → CallId → Option ℕ → Type 0
 IsEndLine text id number = MatchOption number (HasNoEnd (lines text) id) (IsFirstEnd (lines text) id)
 
--- a remark that stands at a word of a line
-abbrev pub Marks : (text : List ℕ) → (number word : ℕ) → Option Remark → Type 0
-Marks text number word None = ⊥
-Marks text number word (Some remark) = MarksWord text number word remark.place
-
 -- a remark at the name of a call in the line of its end
 abbrev pub IsEndRemark : (text : List ℕ) → CallId → Option Remark → Type 0
 IsEndRemark text id remark = (line : Option ℕ) × IsEndLine text id line × MatchOption line (remark ≡ None) (λ number. Marks text number 1 remark)
 
--- Of the module's faults what is shown of them anywhere. Of F1 the line; of X1 the line of the call's end; X2 has no place.
+-- Of the module's faults what is shown of them anywhere. Of F1 the line, and in it the word that is the cause, or the first one; of X1 the line of the call's end; X2 has no place.
 abbrev pub IsHistoryExplanation : (object history_file : Source) → SearchFault → Option (List ℕ) → Type 0
 IsHistoryExplanation object history_file (Faults.Text e) shown = IsTextExplanation object.name object.text e shown
 IsHistoryExplanation object history_file (Faults.Form number) shown =
-    (remark : Option Remark) × Marks history_file.text number 0 remark × (shown ≡ shown_in history_file remark)
+    (remark : Option Remark) × IsHistoryFormRemark object.text history_file.text number remark × (shown ≡ shown_in history_file remark)
 IsHistoryExplanation object history_file (Faults.Open e) shown = IsOpenExplanation object.name object.text e shown
 IsHistoryExplanation object history_file (Faults.Illegal id) shown =
     (remark : Option Remark) × IsEndRemark history_file.text id remark × (shown ≡ shown_in history_file remark)

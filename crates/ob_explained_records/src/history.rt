@@ -29,7 +29,7 @@ pub fn history_explanation(
             module_explanation(alloc, object.name, object.text, CompileFault::Text(fault))
         }
         SearchFault::Form(number) => {
-            let remark = form_remark(alloc, history_file.text, number)?;
+            let remark = form_remark(alloc, object.text, history_file.text, number)?;
             shown(alloc, history_file, remark)
         }
         SearchFault::Open(fault) => {

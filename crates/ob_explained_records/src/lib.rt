@@ -8,6 +8,7 @@ mod end_remark;
 mod end_sentence;
 pub mod history;
 mod history_remark;
+mod history_sentences;
 mod order_place;
 pub mod order_remark;
 pub mod record_faults;

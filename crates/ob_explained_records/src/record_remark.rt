@@ -45,7 +45,7 @@ pub fn form_remark(
 }
 
 /// Whether the line of a number stands behind another one, where there is that.
-fn is_behind(other: Option<usize>, number: usize) -> bool
+pub(crate) fn is_behind(other: Option<usize>, number: usize) -> bool
     ensures { result ≡ is_behind other number }
 {
     match other {
@@ -218,7 +218,7 @@ fn no_cause(
     }
 }
 
-fn is_memory(fault: TextFault) -> bool
+pub(crate) fn is_memory(fault: TextFault) -> bool
     ensures { result ≡ is_text_memory fault }
 {
     matches!(fault, TextFault::NoMemory)
@@ -246,7 +246,7 @@ fn told_form(
 }
 
 /// Where a word of a line stands.
-fn place_of_spot(text: &[u8], number: usize, spot: Spot) -> usize
+pub(crate) fn place_of_spot(text: &[u8], number: usize, spot: Spot) -> usize
     ensures place { result ≡ in_line (word_place (words_before spot)) text.now number }
     ensures marked { MarksWord text.now number (words_before spot) result }
 {
