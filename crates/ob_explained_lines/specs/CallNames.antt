@@ -7,7 +7,7 @@ use Rattle.wf_history.specs.declared.event.CallId.{CallId}
 
 -- the word names the call, as p.k, as words of records do
 abbrev pub Names : Word → CallId → Type 0
-Names word id = IsId most_processes word id
+Names word id = IsId process_numbers word id
 
 module _ (ws : List Word) (id : CallId) where
   abbrev pub NamesNone : Type 0

@@ -65,13 +65,18 @@ IsProcessCount ws count =
     MatchOption count ((word : Word) (n : ℕ) → slice_get ws 1 ≡ Some word → IsNumeral word n → n < 2 ^ 64 → ⊥)
     (λ n. (word : Word) × (slice_get ws 1 ≡ Some word) × IsNumeral word n)
 
+-- how calls are named of so many processes as the n line says
+abbrev pub counted_sentence : (processes : ℕ) → List ℕ
+counted_sentence processes =
+    codes "a call is named by its process, a dot and its number, as 0.1, and by the n line "
+    ++ (if processes == 1 then codes "there is process 0 alone" else (codes "the processes are 0 to " ++ decimal (processes - 1)))
+
 -- how calls are named, and which processes there are: of a history all numbers that a process may have
 abbrev pub id_sentence : (processes : ℕ) → List ℕ
 id_sentence processes =
-    codes "a call is named by its process, a dot and its number, as 0.1, and "
-    ++ (if processes == process_numbers then codes "a process has at most nine digits"
-    else (if processes == 1 then codes "by the n line there is process 0 alone"
-    else (codes "by the n line the processes are 0 to " ++ decimal (processes - 1))))
+    if processes == process_numbers
+    then codes "a call is named by its process, a dot and its number, as 0.1, and a process has at most nine digits"
+    else counted_sentence processes
 
 abbrev pub reply_sentence : List ℕ
 reply_sentence = codes "behind a call that ends stands done and the values of its parameters with VAR, or trap and 1 to 5"

@@ -7,7 +7,7 @@ ghost use Rattle.ob_explained_lines.specs.CallPlaces.{NamesNoCall};
 ghost use Rattle.ob_explained_lines.specs.Causes.{IsBeginCause, IsCallsCause, IsCountedCause, IsDoneCause, IsEndCause, IsHistoryLineCause, IsLetter, IsLetterCause, IsLineCause};
 ghost use Rattle.ob_explained_lines.specs.Causes.{IsDoneTold, IsSaidBegin, IsSaidEnd, IsOutcome, IsOutcomeCause, IsPlacedBegin, IsPlacedEnd, IsProcessCount};
 ghost use Rattle.ob_explained_lines.specs.Causes.{IsReplyCause, IsStranger, IsWordsCause, begin_told, called_by, cause_at, cause_of, done_told, has_budget, has_openings};
-ghost use Rattle.ob_explained_lines.specs.Causes.{head_words, id_sentence, line_words, object_of, reply_sentence, told_spot, trap_sentence};
+ghost use Rattle.ob_explained_lines.specs.Causes.{counted_sentence, head_words, id_sentence, line_words, object_of, reply_sentence, told_spot, trap_sentence};
 ghost use Rattle.ob_interface.specs.Export.{var_types};
 ghost use Rattle.ob_interface.specs.View.{signature_of};
 
@@ -253,9 +253,23 @@ fn told(spot: Spot, sentence: String) -> Result<Option<Cause>, AllocError>
     Ok(Some(Cause { spot, sentence }))
 }
 
-/// How calls are named, and which processes there are.
+/// How calls are named, and which processes there are: of a history all numbers that a process may have.
 fn id_sentence(alloc: Global, processes: usize) -> Result<String, AllocError>
     ensures { IfOk result (λ said. string_bytes said ≡ id_sentence processes) }
+{
+    if processes == PROCESS_NUMBERS {
+        String::from_str(
+            alloc,
+            "a call is named by its process, a dot and its number, as 0.1, and a process has at most nine digits",
+        )
+    } else {
+        counted_sentence(alloc, processes)
+    }
+}
+
+/// How calls are named of so many processes as the n line says.
+fn counted_sentence(alloc: Global, processes: usize) -> Result<String, AllocError>
+    ensures { IfOk result (λ said. string_bytes said ≡ counted_sentence processes) }
 {
     let mut said = String::from_str(
         alloc,
