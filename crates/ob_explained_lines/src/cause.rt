@@ -273,14 +273,12 @@ fn counted_sentence(alloc: Global, processes: usize) -> Result<String, AllocErro
 {
     let mut said = String::from_str(
         alloc,
-        "a call is named by its process, a dot and its number, as 0.1, and ",
+        "a call is named by its process, a dot and its number, as 0.1, and by the n line ",
     )?;
-    if processes == PROCESS_NUMBERS {
-        said.push_str("a process has at most nine digits")?;
-    } else if processes == 1 {
-        said.push_str("by the n line there is process 0 alone")?;
+    if processes == 1 {
+        said.push_str("there is process 0 alone")?;
     } else {
-        said.push_str("by the n line the processes are 0 to ")?;
+        said.push_str("the processes are 0 to ")?;
         push_number(&mut said, processes.saturating_sub(1))?;
     }
     Ok(said)
