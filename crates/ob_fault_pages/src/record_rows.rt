@@ -93,8 +93,23 @@ or the order, and else the line's first word.
 
 F1 of a history: no history has this line at this place, or the text ends
 before each variable has its I line. `order` and `explain MODULE --history
-HISTORY` tell it; the sentence goes by the first byte of the line:
+HISTORY` tell it. Of a line of an event (B, E), of calls (A) or of the order
+(O) the word that is the cause is marked, and told as in a record, but for the
+processes: any number of at most nine digits is one.
 
+  B x.1 Inc
+    F1 line 1
+    no name of a call
+    a call is named by its process, a dot and its number, as 0.1, and a process
+      has at most nine digits
+
+Else the first word is marked; behind an order it is told so. The sentence goes
+by the lines before it too:
+
+  any
+    the I line of the next variable is missing
+    here the I line of a is missing: of the module's variables each has one
+      before the events, or none has
   missing or empty
     here a line is missing: of the module's variables each has an I line before
       the events, or none has
@@ -105,20 +120,18 @@ HISTORY` tell it; the sentence goes by the first byte of the line:
     behind E stand a call that has begun and not ended, as 0.1, and done and
       its values, or trap and 1 to 5, as E 0.1 done 3
   A, O
-    behind A and O stand names of calls, as 0.1; an order stands behind all
-      events, and once
+    behind A and O stand names of calls, as 0.1, and no more
+  any
+    behind the order
+    behind the order stand S and V lines alone
   I
-    behind I stand the next variable of the module and a value of its type,
-      before all events; each variable has a line, or none has
-  b
-    behind b stands how many turns each call has, 0 to 1000000, once and before
-      the values that the object began with
-  n
-    behind n stands how many processes there are, a number of at most nine
-      digits, once and before the budget
-  o
-    a title, as obl0 record 2, stands before all other lines, or there is none
-  .. and 2 more, in docs/FAULTS.md
+    another name, or none
+    behind I stands the next variable of the module, which is x, and its value
+  I
+    no value of the variable's type, or more
+    behind I x stands an INTEGER, a number from -2147483648 to 2147483647, and
+      no more
+  .. and 13 more, in docs/FAULTS.md
 
 Shown in its text by `obl0 explain a.mod --record record`, or `obl0 explain
 a.mod --history history`.
