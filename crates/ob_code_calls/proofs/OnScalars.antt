@@ -7,7 +7,7 @@ use Rattle.ob_checked.specs.Types.{Entry}
 use Rattle.ob_checked.specs.View.{variable_of}
 use Rattle.ob_checked.specs.declared.program.Variable as Declared
 use Rattle.ob_code_calls.specs.Calls.{IsMade, IsMadeThrough, block_behind, meaning_of}
-use Rattle.ob_code_calls.specs.Scalars.{IsCodeWith, IsMadeOf, held_of}
+use Rattle.ob_code_calls.specs.Scalars.{IsCodeWith, held_of}
 use Rattle.ob_code_correct.proofs.CodeLaw.{lawful_decoded}
 use Rattle.ob_code_correct.specs.CodeMeaning.{EngineParts}
 use Rattle.ob_code_correct.specs.Parts.{IsLawfulFor}
@@ -52,22 +52,19 @@ module _ (parts : EngineParts) (variables : List Declared.Variable) (scalars : L
         is = record { state = map held_of scalars; encodes = subst (λ (vs : List Variable). IsEncoding vs (map held_of scalars) block) h.are (laid h.types) };
       })
 
-  -- what is made of it, and read from it again, is what the call comes to
-  pub made_of : (program : Program) (types : List Entry) → map (variable_of types) variables ≡ program.variables → (call : ObjectCall) (behind : List ℤ) (after : List Scalar) (reply : Reply) →
-      (IsEncoding program.variables (map held_of scalars) block → IsMade program parts.budget call (map held_of scalars) behind reply) →
-      decoded (map (variable_of types) variables) behind ≡ Some (map held_of after) → IsMadeOf program parts call scalars after reply
-  made_of program types are call behind after reply made read =
-      let encodes = subst (λ (vs : List Variable). IsEncoding vs (map held_of scalars) block) are (laid types) in
-      let m = made encodes in
-      let e = effect program call parts.budget (map held_of scalars) in
-      let state : e.state ≡ map held_of after =
-      same_Some _ _ (sym (lawful_decoded program behind e.state m.block_is) ∙ ap (λ (vs : List Variable). decoded vs behind) (sym are) ∙ read) in
-      ap (λ (s : Activation). record { state = s; reply = e.reply }) state
-      ∙ ap (λ (r : Reply). record { state = map held_of after; reply = r }) m.reply_is
+module _ (program : Program) (parts : EngineParts) (variables : List Declared.Variable) (types : List Entry) (are : map (variable_of types) variables ≡ program.variables) (call : ObjectCall) (before : Activation) where
+  -- what is read from the block behind a call is the state that it leads to
+  pub state_is : (behind : List ℤ) (after : Activation) (reply : Reply) → IsMade program parts.budget call before behind reply → decoded (map (variable_of types) variables) behind ≡ Some after →
+      (effect program call parts.budget before).state ≡ after
+  state_is behind after reply m read =
+      same_Some _ _ (sym (lawful_decoded program behind (effect program call parts.budget before).state m.block_is) ∙ ap (λ (vs : List Variable). decoded vs behind) (sym are) ∙ read)
+
+  pub made_of : (behind : List ℤ) (after : Activation) (reply : Reply) → IsMade program parts.budget call before behind reply → decoded (map (variable_of types) variables) behind ≡ Some after →
+      effect program call parts.budget before ≡ record { state = after; reply = reply }
+  made_of behind after reply m read =
+      ap (λ (s : Activation). record { state = s; reply = (effect program call parts.budget before).reply }) (state_is behind after reply m read)
+      ∙ ap (λ (r : Reply). record { state = after; reply = r }) m.reply_is
 
   -- also where it is left as it was
-  pub same_of : (program : Program) (types : List Entry) → map (variable_of types) variables ≡ program.variables →
-      decoded (map (variable_of types) variables) block ≡ Some (map held_of scalars)
-  same_of program types are =
-      let encodes = subst (λ (vs : List Variable). IsEncoding vs (map held_of scalars) block) are (laid types) in
-      ap (λ (vs : List Variable). decoded vs block) are ∙ lawful_decoded program block (map held_of scalars) encodes
+  pub same_of : (block : List ℤ) → IsEncoding program.variables before block → decoded (map (variable_of types) variables) block ≡ Some before
+  same_of block encodes = ap (λ (vs : List Variable). decoded vs block) are ∙ lawful_decoded program block before encodes

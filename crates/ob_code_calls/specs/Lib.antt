@@ -3,3 +3,4 @@ pub mod Keeping
 pub mod Parts
 pub mod Scalars
 pub mod Standing
+pub mod Wanted

@@ -1,5 +1,5 @@
 -- States whose variables hold scalars alone.
-use Rattle.std.specs.Prelude.{◌≡◌, ℤ, List, Some, map}
+use Rattle.std.specs.Prelude.{◌≡◌, ℕ, ℤ, List, Option, Some, map}
 use Rattle.ob_checked.specs.Types.{Entry}
 use Rattle.ob_checked.specs.View.{variable_of}
 use Rattle.ob_checked.specs.declared.program.Variable as Declared
@@ -9,10 +9,12 @@ use Rattle.ob_interface.specs.declared.scalar.ScalarType.{ScalarType}
 use Rattle.ob_typing.specs.Program.{DataType, Program, Simple}
 use Rattle.ob_meaning.specs.ByPositionStore.{Held, Holds}
 use Rattle.ob_meaning.specs.ByPositionValue.{Single}
+use Rattle.ob_code_calls.specs.Calls.{IsMadeThrough}
+use Rattle.ob_code_calls.specs.declared.scalar_calls.Work.{Work}
 use Rattle.ob_code_correct.specs.CodeMeaning.{EngineParts}
 use Rattle.ob_code_correct.specs.Compiled.{CallEnds}
 use Rattle.ob_code_correct.specs.Parts.{IsCompiledTo}
-use Rattle.ob_code_scheme.specs.Layout.{word, scalar_in}
+use Rattle.ob_code_scheme.specs.Layout.{IsEncoding, word, scalar_in}
 use Rattle.ob_code_scheme.specs.Types.{IsValueOf}
 
 -- a variable that holds a scalar
@@ -40,3 +42,9 @@ pub record IsCodeWith (variables : List Declared.Variable) (parts : EngineParts)
 -- the call leads from variables that hold these scalars to variables that hold those, with this reply
 abbrev pub IsMadeOf : Program → EngineParts → ObjectCall → (before after : List Scalar) → Reply → Type 0
 IsMadeOf program parts call before after reply = CallEnds program parts.budget call (map held_of before) (map held_of after) reply
+
+-- the call was made on the block of variables that hold these scalars, in this room and on this block, and trapped so, if it trapped
+pub record IsMadeOn (program : Program) (parts : EngineParts) (call : ObjectCall) (before : List Scalar) (work : Work) (trap : Option ℕ) : Type 0 where
+  pub block : List ℤ
+  pub laid : IsEncoding program.variables (map held_of before) block
+  pub through : IsMadeThrough program parts call (map held_of before) block work.block.items work.room.run trap

@@ -2,7 +2,7 @@
 
 ghost use Rattle.std.specs.Prelude.{◌≡◌, ◌+◌, ◌*◌, length};
 
-use crate::fitting::do_fit;
+use crate::fitting_arguments::do_fit;
 use crate::room::Room;
 use crate::running::{begin, reply_to, run_on};
 use ob_checked::checked::Checked;

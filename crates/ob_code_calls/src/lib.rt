@@ -5,8 +5,8 @@
 #![tactic(auto)]
 
 pub mod block_calls;
-mod fitting;
-mod noted;
+mod fitting_arguments;
+mod noted_calls;
 pub mod room;
 mod running;
 pub mod scalar_calls;
@@ -15,5 +15,5 @@ pub mod standing_state;
 
 pub use block_calls::CodeCalls;
 pub use room::Room;
-pub use scalar_calls::ScalarCalls;
+pub use scalar_calls::{Led, Request, ScalarCalls, Wanted};
 pub use standing_state::CodedState;

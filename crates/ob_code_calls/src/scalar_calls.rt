@@ -1,7 +1,9 @@
 //! Calls by code on states whose variables are all scalars, each from a state that is given.
 
-ghost use Rattle.std.specs.Prelude.{◌≡◌};
+ghost use Rattle.std.specs.Prelude.{◌≡◌, ◌↔◌, IsTrue};
 ghost use Rattle.ob_code_calls.specs.Parts.{parts_in};
+ghost use Rattle.ob_code_calls.specs.Wanted.{IsWanted};
+ghost use Rattle.ob_interface.specs.View.{reply_of};
 
 use crate::scalars::{Scalars, lay_scalars, read_scalars};
 use crate::{CodeCalls, Room};
@@ -41,13 +43,56 @@ impl Drop for ScalarCalls {
     }
 }
 
+/// The reply that is wanted of a call.
+#[derive(Clone, Copy)]
+pub enum Wanted<'a> {
+    /// Any.
+    Any,
+    /// These values.
+    Values(&'a [Scalar]),
+    /// This trap.
+    Trap(u8),
+}
+
+/// A call by its export's number, and the reply that is wanted of it.
+#[derive(Clone, Copy)]
+pub struct Request<'a, 'w> {
+    pub proc: usize,
+    pub arguments: &'a [Scalar],
+    pub wanted: Wanted<'w>,
+}
+
+/// What comes of a call of which a reply is wanted.
+#[derive(Drop)]
+pub enum Led {
+    /// It has that reply, and leads to variables with these values.
+    To(Scalars),
+    /// It has another one.
+    Elsewhere,
+    /// The values, or the call, are none of the module.
+    Nowhere,
+}
+
+/// Whether a reply is the one that is wanted.
+fn is_wanted(reply: &Reply, wanted: Wanted) -> bool
+    ensures { IsTrue result ↔ IsWanted wanted.entry (reply_of reply.now) }
+{
+    match (reply, wanted) {
+        (_, Wanted::Any) => true,
+        (Reply::Done(values), Wanted::Values(others)) => values.as_slice() == others,
+        (Reply::Trap(number), Wanted::Trap(other)) => *number == other,
+        _ => false,
+    }
+}
+
 impl ScalarCalls {
     ghost use Rattle.std.specs.Prelude.{List, IfOk, IfSome, map};
     ghost use Rattle.ob_checked.specs.Types.{Entry};
     ghost use Rattle.ob_checked.specs.View.{variable_of};
     ghost use Rattle.ob_code_calls.specs.Calls.{asked};
     ghost use Rattle.ob_code_calls.specs.Parts.{IsRoomFor};
-    ghost use Rattle.ob_code_calls.specs.Scalars.{IsCodeWith, IsMadeOf};
+    ghost use Rattle.ob_code_calls.specs.Scalars.{IsCodeWith, IsMadeOf, IsMadeOn};
+    ghost use Rattle.ob_code_calls.specs.Wanted.{IsLed};
     ghost use Rattle.ob_code_correct.specs.Parts.{IsCompiledTo};
     ghost use Rattle.ob_interface.specs.View.{reply_of};
     ghost use Rattle.ob_typing.specs.Program.{Program};
@@ -87,6 +132,33 @@ impl ScalarCalls {
         Ok(Box::new(self.alloc, Work { room, block })?)
     }
 
+    /// A call that is made on variables with these values: what it was made in, and its trap, where it traps; nothing where the values or
+    /// the call are none of the module.
+    fn made(
+        &self,
+        variables: &[Variable],
+        scalars: &[Scalar],
+        proc: usize,
+        arguments: &[Scalar],
+    ) -> Result<Option<(Box<Work>, Option<u8>)>, NoMemory>
+        requires { ∥ IsCodeWith variables.now (parts_in self.now.calls) ∥₁ }
+        ensures room { IfOk result (λ o. IfSome o (λ made. IsRoomFor (parts_in self.now.calls) made.0.value.room)) }
+        ensures made { (program : Program) (types : List Entry) → IsCompiledTo program (parts_in self.now.calls) → map (variable_of types) variables.now ≡ program.variables
+            → IfOk result (λ o. IfSome o (λ made. IsMadeOn program (parts_in self.now.calls) (asked proc arguments.now) scalars.now made.0.value made.1)) }
+    {
+        if !self.calls.fits(proc, arguments) {
+            return Ok(None);
+        }
+        let mut work = self.work()?;
+        let here = &mut *work;
+        let block = here.block.as_mut_slice();
+        if !lay_scalars(variables, scalars, block) {
+            return Ok(None);
+        }
+        let (trap, _) = self.calls.make(&mut here.room, block, proc, arguments);
+        Ok(Some((work, trap)))
+    }
+
     /// What a call makes of variables with these values, and what it answers; nothing where the values or the call are none of the module.
     pub fn called(
         &self,
@@ -99,26 +171,57 @@ impl ScalarCalls {
         ensures { (program : Program) (types : List Entry) → IsCompiledTo program (parts_in self.now.calls) → map (variable_of types) variables.now ≡ program.variables
             → IfOk result (λ o. IfSome o (λ made. IsMadeOf program (parts_in self.now.calls) (asked proc arguments.now) scalars.now made.0.items (reply_of made.1))) }
     {
-        if !self.calls.fits(proc, arguments) {
+        let Some((mut work, trap)) = self.made(variables, scalars, proc, arguments)? else {
             return Ok(None);
-        }
-        let mut work = self.work()?;
-        let here = &mut *work;
-        let block = here.block.as_mut_slice();
-        if !lay_scalars(variables, scalars, block) {
-            return Ok(None);
-        }
-        let (trap, _) = self.calls.make(&mut here.room, block, proc, arguments);
+        };
         if let Some(number) = trap {
             let same = SmallVec::from_slice(self.alloc, scalars)?;
             self.work.set(Some(work));
             return Ok(Some((same, Reply::Trap(number))));
         }
-        let Some(after) = read_scalars(self.alloc, variables, block)? else {
+        let Some(after) = read_scalars(self.alloc, variables, work.block.as_slice())? else {
             return Ok(None);
         };
-        let reply = self.calls.reply(&mut here.room, proc);
+        let reply = self.calls.reply(&mut work.room, proc);
         self.work.set(Some(work));
         Ok(Some((after, reply)))
+    }
+
+    /// What comes of a call on variables with these values, of which a reply is wanted. Where it has another one, nothing is read.
+    pub fn led(
+        &self,
+        variables: &[Variable],
+        scalars: &[Scalar],
+        request: Request,
+    ) -> Result<Led, NoMemory>
+        requires { ∥ IsCodeWith variables.now (parts_in self.now.calls) ∥₁ }
+        ensures { (program : Program) (types : List Entry) → IsCompiledTo program (parts_in self.now.calls) → map (variable_of types) variables.now ≡ program.variables
+            → IfOk result (IsLed program (parts_in self.now.calls) (asked request.entry.proc request.entry.arguments.now) scalars.now request.entry.wanted) }
+    {
+        let Request {
+            proc,
+            arguments,
+            wanted,
+        } = request;
+        let Some((mut work, trap)) = self.made(variables, scalars, proc, arguments)? else {
+            return Ok(Led::Nowhere);
+        };
+        if let Some(number) = trap {
+            self.work.set(Some(work));
+            if !is_wanted(&Reply::Trap(number), wanted) {
+                return Ok(Led::Elsewhere);
+            }
+            return Ok(Led::To(SmallVec::from_slice(self.alloc, scalars)?));
+        }
+        if !is_wanted(&self.calls.reply(&mut work.room, proc), wanted) {
+            self.work.set(Some(work));
+            return Ok(Led::Elsewhere);
+        }
+        let after = read_scalars(self.alloc, variables, work.block.as_slice())?;
+        self.work.set(Some(work));
+        match after {
+            Some(after) => Ok(Led::To(after)),
+            None => Ok(Led::Nowhere),
+        }
     }
 }

@@ -7,7 +7,7 @@ ghost use Rattle.ob_code_correct.specs.Compiled.{IsFitting};
 ghost use Rattle.ob_code_correct.specs.Parts.{IsLawfulFor};
 ghost use Rattle.ob_interface.specs.View.{call_of};
 
-use crate::noted::{made_again, noted};
+use crate::noted_calls::{made_again, noted};
 use crate::{CodeCalls, Room};
 use ob_interface::NoMemory;
 use ob_interface::call::{Call, Reply};

@@ -1,22 +1,27 @@
 -- What code makes of scalars is what the call makes of their state.
-use Rattle.std.proofs.Common.{◌≡◌, ◌∙◌, ap, refl, sym, subst, ℕ, List, [], ◌∷◌, map, Some, arith}
-use Rattle.std.specs.Prelude.{Option, IfSome}
-use Rattle.std.specs.Coded.{Coded, coded×, coded_list, coded_ℕ}
-use Rattle.std.proofs.Math.Logic.{∥∥₁_map}
+use Rattle.std.proofs.Common.{◌≡◌, ◌∙◌, ap, refl, sym, subst, ℕ, List, [], ◌∷◌, map, Some, None, arith}
+use Rattle.std.specs.Prelude.{Option, IfOk, IfSome, Result}
+use Rattle.std.specs.declared.result.Result.TheVariants.{Ok, Err}
+use Rattle.std.specs.Coded.{Coded, Coded-set, coded×, coded_list, coded_ℕ}
+use Rattle.std.proofs.Math.Logic.{∥∥₁_elim, ∥∥₁_map}
 use base.Stored.{coded_via}
 use Rattle.ob_code_calls.specs.Parts.{parts_in}
 use Rattle.ob_code_calls.specs.Scalars.{IsMadeOf, held_of}
+use Rattle.ob_code_calls.specs.Wanted.{IsLed, IsWanted}
+use Rattle.ob_code_calls.specs.declared.scalar_calls.Led.{Led}
+use Rattle.ob_code_calls.specs.declared.scalar_calls.Led.TheVariants as Leds
 use Rattle.ob_code_calls.specs.declared.scalar_calls.ScalarCalls.{ScalarCalls}
+use Rattle.ob_code_calls.specs.declared.scalar_calls.Wanted.{Wanted}
 use Rattle.ob_code_correct.specs.CodeMeaning.{EngineParts}
 use Rattle.ob_code_correct.specs.Compiled.{parts_of}
 use Rattle.ob_code_scheme.specs.WellFormed.{IsWellFormed}
-use Rattle.ob_object_search.specs.Code.{HasCode}
+use Rattle.ob_object_search.specs.Code.{HasCode, IsLedSo}
 use Rattle.ob_interface.specs.Call.{ObjectCall, Reply, Answers, Trapped}
 use Rattle.ob_interface.specs.declared.scalar.Scalar.{Scalar}
 use Rattle.ob_object_run.specs.LegalOrder.{CallEnds}
 use Rattle.ob_object_search.specs.Laws.{scalar_apart, words_told_apart}
 use Rattle.ob_object_search.specs.Words.{word_of, words_of}
-use Rattle.ob_meaning.specs.ByPositionObject.{Effect}
+use Rattle.ob_meaning.specs.ByPositionObject.{Effect, effect}
 use Rattle.ob_meaning.specs.ByPositionStore.{Activation}
 use Rattle.ob_typing.specs.Program.{Program}
 use Rattle.ob_checked.specs.View.{program_of, table_of, variable_of}
@@ -85,3 +90,38 @@ module _ (program : Program) (parts : EngineParts) (budget : ℕ) where
       subst (λ (b : ℕ). CallEnds program b call state (map held_of after) reply) turns
       (subst (λ (x : ObjectCall). CallEnds program parts.budget x state (map held_of after) reply) same
       (subst (λ (s : Activation). CallEnds program parts.budget asked s (map held_of after) reply) is made))
+
+-- what is known of a result by a premise is known under it
+pub under : {X A E : Type 0} (P : A → Type 0) (r : Result A E) → (X → IfOk r P) → IfOk r (λ a. X → P a)
+under P (Ok a) f = f
+under P (Err e) f = tt
+
+-- ---- where it leads with a reply that is wanted
+
+coded_reply : Coded Reply
+coded_reply = coded_via (coded_list coded_ℕ) reply_words replies_apart
+
+module _ (program : Program) (budget : ℕ) (code : ScalarCalls) (has : ∥ HasCode program budget code ∥₁) (asked call : ObjectCall) (same : asked ≡ call) (scalars : List Scalar) (wanted : Wanted) (known : Option Reply)
+    (so : (r : Reply) → IsWanted wanted r → IfSome known (λ x. x ≡ r)) (other : (r : Reply) → ¬ IsWanted wanted r → (x : Reply) × (known ≡ Some x) × (x ≡ r → ⊥)) where
+  -- what the call comes to
+  abbrev ends : Effect
+  ends = effect program call budget (map held_of scalars)
+
+  ends_so : HasCode program budget code → effect program asked (parts_in code.calls).budget (map held_of scalars) ≡ ends
+  ends_so h = ap (λ (b : ℕ). effect program asked b (map held_of scalars)) h.turns ∙ ap (λ (x : ObjectCall). effect program x budget (map held_of scalars)) same
+
+  replies_so : (k : Option Reply) → known ≡ k → (HasCode program budget code → IsWanted wanted ends.reply) → IfSome k (λ x. x ≡ ends.reply)
+  replies_so None is replies = tt
+  replies_so (Some x) is replies = ∥∥₁_elim has (Coded-set coded_reply _ _) (λ h. subst (λ (k : Option Reply). IfSome k (λ y. y ≡ ends.reply)) is (so ends.reply (replies h)))
+
+  pub led_so : (led : Led) → (HasCode program budget code → IsLed program (parts_in code.calls) asked scalars wanted led) → IsLedSo (CallEnds program budget call) (map held_of scalars) known led
+  led_so (Leds.To after) f = (
+    ends.reply,
+    ∥∥₁_elim has (Coded-set coded_effect _ _) (λ h. ap (λ (s : Activation). record { state = s; reply = ends.reply }) (ap (λ (e : Effect). e.state) (sym (ends_so h)) ∙ (f h).0)),
+    replies_so known refl (λ h. subst (λ (e : Effect). IsWanted wanted e.reply) (ends_so h) (f h).1),
+  )
+  led_so Leds.Elsewhere f =
+      let not_wanted : ¬ IsWanted wanted ends.reply = λ w. ∥∥₁_elim has (λ a b. absurd a) (λ h. f h (subst (λ (e : Effect). IsWanted wanted e.reply) (sym (ends_so h)) w)) in
+      let it = other ends.reply not_wanted in
+      (ends.state, ends.reply, refl, it.0, it.1, it.2)
+  led_so Leds.Nowhere f = tt

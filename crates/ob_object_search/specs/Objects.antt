@@ -8,7 +8,7 @@ use Rattle.ob_object_search.specs.NumberedParts as Parts
 use Rattle.ob_object_search.specs.Parted.{PartOrder}
 use Rattle.ob_object_search.specs.declared.fault.PartsFault.{PartsFault}
 use Rattle.ob_object_search.specs.declared.instance.ModuleObject.{ModuleObject}
-use Rattle.ob_object_search.specs.declared.kept.KeptState.{KeptState}
+use Rattle.ob_object_search.specs.declared.kept_states.KeptState.{KeptState}
 use Rattle.ob_meaning.specs.ByPositionStore.{Activation}
 use Rattle.ob_store.specs.View.{state_of}
 use Rattle.wf_parts.specs.Numbering.{PartView}

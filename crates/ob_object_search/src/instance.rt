@@ -3,18 +3,18 @@
 ghost use Rattle.std.specs.Prelude.{◌≡◌, IfOk};
 ghost use Rattle.ob_checked.specs.CheckedModule.{program_in};
 ghost use Rattle.ob_interface.specs.View as Objects;
-ghost use Rattle.ob_mean.specs.View.{call_of, reply_of};
+ghost use Rattle.ob_mean.specs.View.{reply_of};
 ghost use Rattle.ob_carry.specs.ReadOnly.{TellsReadOnly};
 ghost use Rattle.ob_object_search.specs.Code.{IsCodeOf};
-ghost use Rattle.wf_history.specs.View.{seen_call};
 
 use crate::coding::module_code;
-use crate::kept::{KeptState, kept};
+use crate::kept_states::{KeptState, kept};
 use ob_carry::silent_exports::read_only_exports;
 use ob_checked::checked::Checked;
-use ob_code_calls::ScalarCalls;
+use ob_code_calls::{Led, Request, ScalarCalls, Wanted};
 use ob_interface::NoMemory;
 use ob_interface::call::Reply;
+use ob_interface::scalar::Scalar;
 use ob_mean::call as interpreter;
 use ob_mean::outside_call::step;
 use ob_store::state::State;
@@ -22,6 +22,7 @@ use smallvec::SmallVec;
 use std::alloc::{AllocError, Global};
 use wf_history::{SeenCall, SeenReply};
 use wf_order::Object;
+use wf_order::compared_replies::is_same_reply;
 use wf_order::searched_object::Words;
 
 /// The object of a checked module that begins with this state, each call with so many turns.
@@ -74,16 +75,6 @@ impl<'a> ModuleObject<'a> {
     }
 }
 
-/// The call, for the interpreter.
-fn call_in(alloc: Global, call: SeenCall) -> Result<interpreter::Call, AllocError>
-    ensures { IfOk result (λ c. call_of c ≡ seen_call call.entry) }
-{
-    Ok(interpreter::Call {
-        export: call.proc,
-        arguments: Vec::from_slice(alloc, call.args.lent().as_slice())?,
-    })
-}
-
 /// The interpreter's reply, as an object gives it.
 fn object_reply(alloc: Global, reply: &interpreter::Reply) -> Result<Reply, AllocError>
     ensures { IfOk result (λ given. Objects.reply_of given ≡ reply_of reply.now) }
@@ -97,10 +88,69 @@ fn object_reply(alloc: Global, reply: &interpreter::Reply) -> Result<Reply, Allo
 }
 
 impl<'a> ModuleObject<'a> {
-    ghost use Rattle.std.specs.Prelude.{IfOk};
-    ghost use Rattle.ob_object_search.specs.Objects.{LeadsTo};
+    ghost use Rattle.std.specs.Prelude.{IfOk, map, option_map};
+    ghost use Rattle.ob_checked.specs.CheckedModule.{program_in};
+    ghost use Rattle.ob_code_calls.specs.Scalars.{held_of};
+    ghost use Rattle.ob_object_search.specs.Code.{HasCode, IsLedSo};
+    ghost use Rattle.ob_object_search.specs.Objects.{LeadsTo, effect_in};
     ghost use Rattle.ob_interface.specs.View as Objects;
-    ghost use Rattle.wf_history.specs.View.{seen_call};
+    ghost use Rattle.wf_history.specs.View.{seen_call, seen_reply};
+
+    /// What comes of a call by this code on scalars, where its reply is the one that is known, if one is.
+    fn led_by_code(
+        &self,
+        code: &ScalarCalls,
+        scalars: &[Scalar],
+        call: SeenCall,
+        known: Option<SeenReply>,
+    ) -> Result<Led, NoMemory>
+        requires { ∥ HasCode (program_in self.now.checked.now) self.now.budget code.now ∥₁ }
+        ensures { IfOk result (IsLedSo (effect_in self.now (seen_call call.entry)) (map held_of scalars.now) (option_map seen_reply known.entry)) }
+    {
+        let variables = self.checked.program().variables.as_slice();
+        let arguments = call.args.lent();
+        let proc = call.proc;
+        let arguments = arguments.as_slice();
+        let Some(reply) = known else {
+            let wanted = Wanted::Any;
+            return code.led(
+                variables,
+                scalars,
+                Request {
+                    proc,
+                    arguments,
+                    wanted,
+                },
+            );
+        };
+        match reply {
+            SeenReply::Trap(number) => {
+                let wanted = Wanted::Trap(number);
+                code.led(
+                    variables,
+                    scalars,
+                    Request {
+                        proc,
+                        arguments,
+                        wanted,
+                    },
+                )
+            }
+            SeenReply::Done(values) => {
+                let values = values.lent();
+                let wanted = Wanted::Values(values.as_slice());
+                code.led(
+                    variables,
+                    scalars,
+                    Request {
+                        proc,
+                        arguments,
+                        wanted,
+                    },
+                )
+            }
+        }
+    }
 
     /// What a call makes of a state by the interpreter, and what it answers. It stands apart, so that a call by code makes no room for it.
     #[inline(never)]
@@ -113,7 +163,10 @@ impl<'a> ModuleObject<'a> {
         ensures { IfOk result (λ made. LeadsTo self.now (seen_call call.entry) state.now made.0 (Objects.reply_of made.1)) }
     {
         let before = state.state(alloc)?;
-        let call = call_in(alloc, call)?;
+        let call = interpreter::Call {
+            export: call.proc,
+            arguments: Vec::from_slice(alloc, call.args.lent().as_slice())?,
+        };
         let (next, reply) = step(alloc, self.checked.program(), before, &call, self.budget)?;
         let given = object_reply(alloc, &reply)?;
         Ok((kept(alloc, next.into_values())?, given))
@@ -164,6 +217,35 @@ impl<'a> Object for ModuleObject<'a> {
             }
         }
         self.called_by_tree(alloc, state, call)
+    }
+
+    fn outcome(
+        &self,
+        alloc: Global,
+        state: &KeptState,
+        call: SeenCall,
+        known: Option<SeenReply>,
+    ) -> Result<Option<KeptState>, NoMemory> {
+        if let Some(code) = &self.code
+            && let KeptState::Scalars(scalars) = state
+        {
+            match self.led_by_code(code, scalars.as_slice(), call, known)? {
+                Led::To(after) => return Ok(Some(KeptState::Scalars(after))),
+                Led::Elsewhere => return Ok(None),
+                Led::Nowhere => {}
+            }
+        }
+        let (next, reply) = self.called_by_tree(alloc, state, call)?;
+        match known {
+            None => Ok(Some(next)),
+            Some(other) => {
+                if is_same_reply(&reply, other) {
+                    Ok(Some(next))
+                } else {
+                    Ok(None)
+                }
+            }
+        }
     }
 
     fn words(&self, alloc: Global, state: &KeptState) -> Result<Words, NoMemory> {

@@ -10,7 +10,7 @@ mod candidates;
 mod coding;
 pub mod fault;
 pub mod instance;
-pub mod kept;
+pub mod kept_states;
 pub mod laws;
 pub mod naming_history;
 pub mod order_recording;
@@ -22,7 +22,7 @@ pub mod witness;
 
 pub use fault::PartsFault;
 pub use instance::ModuleObject;
-pub use kept::KeptState;
+pub use kept_states::KeptState;
 pub use order_recording::{RecordingFault, record_of_text};
 pub use searching::{Search, SearchFault, search_text};
 pub use searching_parts::{Part, search_parts_text};

@@ -1,5 +1,5 @@
 -- How many processes events need: the fewest that are enough, and at least one.
-use Rattle.std.proofs.Common.{◌≡◌, refl, ℕ, zero, suc, ◌+◌, ◌≤◌, List, [], ◌∷◌, Some, max, subst, arith}
+use Rattle.std.proofs.Common.{◌≡◌, refl, ℕ, zero, suc, ◌≤◌, List, [], ◌∷◌, Some, max, subst, arith}
 use Rattle.std.proofs.lemmas.Option.{same_Some}
 use Rattle.std.specs.List.{slice_get, Contains}
 use Rattle.ob_interface.specs.Call.{ObjectCall, Reply}

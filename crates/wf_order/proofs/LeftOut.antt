@@ -13,8 +13,8 @@ use Rattle.wf_history.proofs.Positions.{same_call, contains_at}
 use Rattle.wf_order.specs.declared.rows.Begun.{Begun}
 use Rattle.wf_order.specs.declared.rows.Rows.{Rows}
 use Rattle.wf_order.specs.Rows.{AreRows, begun_rows, call_at, ended_rows, row_of}
-use Rattle.wf_order.specs.Rules.{AreIdle, IsAlike, IsOpen, IsSameOutcome}
-use Rattle.wf_order.specs.Search.{IsNextStep, IsOutcome}
+use Rattle.wf_order.specs.Rules.{AreIdle, IsAlike, IsOpen, IsOutcome, IsSameOutcome}
+use Rattle.wf_order.specs.Search.{IsNextStep}
 use Rattle.wf_order.specs.Steps.{Configuration, IsLimit, IsStep}
 use Rattle.wf_order.proofs.Exchange.{IsNext, not_own, own_earlier, own_number, own_within, step_without}
 use Rattle.wf_order.proofs.Limits.{limit_later}

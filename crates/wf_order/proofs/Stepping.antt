@@ -15,8 +15,8 @@ use Rattle.wf_order.specs.declared.rows.Ended.{Ended}
 use Rattle.wf_order.specs.declared.rows.Rows.{Rows}
 use Rattle.wf_order.specs.Rows.{row_of, begun_rows, ended_rows, call_at, AreRows}
 use Rattle.wf_order.specs.Steps.{Configuration, IsLimit, IsStep, one_more}
-use Rattle.wf_order.specs.Rules.{IsReading}
-use Rattle.wf_order.specs.Search.{HasNoStep, IsNextStep, IsOnlyStep, IsSilentStep, IsOutcome}
+use Rattle.wf_order.specs.Rules.{IsOutcome, IsReading}
+use Rattle.wf_order.specs.Search.{HasNoStep, IsNextStep, IsOnlyStep, IsSilentStep}
 use Rattle.wf_order.proofs.Limits.{limit_earlier, limit_later}
 use Rattle.wf_order.proofs.Lists.{same_configuration}
 

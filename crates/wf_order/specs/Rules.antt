@@ -1,5 +1,5 @@
 -- Steps that a search need not try.
-use Rattle.std.specs.Prelude.{◌≡◌, ℕ, ◌+◌, ◌<◌, List, [], ◌∷◌, length, get_or, slice_get, Option, Some, IfSome, Contains, ◌⊎◌}
+use Rattle.std.specs.Prelude.{◌≡◌, ℕ, ◌+◌, ◌<◌, List, [], ◌∷◌, length, get_or, slice_get, Option, Some, None, IfSome, Contains, ◌⊎◌}
 use Rattle.wf_history.specs.declared.event.CallId.{CallId}
 use Rattle.wf_history.specs.History.{Event, End, Before}
 use Rattle.wf_history.specs.Legal.{HasBegun}
@@ -114,3 +114,8 @@ module _ {State Call Reply : Type 0} (Effect : Call → State → State → Repl
 abbrev pub IsSameOutcome : {State Reply : Type 0} → (State → State → Reply → Type 0) → State → State → Option Reply → Type 0
 IsSameOutcome {State} {Reply} Effect before behind known =
     (after : State) (reply : Reply) → Effect behind after reply → IfSome known (λ r. r ≡ reply) → (other : Reply) × Effect before after other × IfSome known (λ r. r ≡ other)
+
+-- the state after a call, where its reply is the one that is known, if one is
+abbrev pub IsOutcome : {State Reply : Type 0} → (State → State → Reply → Type 0) → State → Option Reply → Option State → Type 0
+IsOutcome {State} {Reply} Effect before known (Some after) = (reply : Reply) × Effect before after reply × IfSome known (λ r. r ≡ reply)
+IsOutcome {State} {Reply} Effect before known None = (after : State) × (reply : Reply) × Effect before after reply × (r : Reply) × (known ≡ Some r) × (r ≡ reply → ⊥)

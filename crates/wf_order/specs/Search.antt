@@ -5,12 +5,13 @@ use Rattle.wf_history.specs.declared.event.CallId.{CallId}
 use Rattle.ob_interface.specs.Call.{ObjectCall, Reply}
 use Rattle.wf_history.specs.History.{Event, Begin}
 use Rattle.wf_history.specs.Legal.{IsLegal}
-use Rattle.wf_history.specs.View.{seen_call, seen_reply}
+use Rattle.wf_history.specs.View.{seen_call}
 use Rattle.ob_interface.specs.View.{reply_of}
 use Rattle.std.specs.HashSet.{HashSet}
 use Rattle.wf_order.specs.declared.search.Answer.{Answer}
 use Rattle.wf_order.specs.declared.search.Answer.TheVariants as Answers
 use Rattle.wf_order.specs.declared.search.Frame.{Frame}
+use Rattle.wf_order.specs.declared.step.Heard.{Heard}
 use Rattle.wf_order.specs.declared.step.Here.{Here}
 use Rattle.wf_order.specs.declared.step.Made.{Made}
 use Rattle.wf_order.specs.declared.step.Silent.{Silent}
@@ -56,11 +57,6 @@ IsGrown {A} old new = (more : List A) × (new ≡ old ++ more)
 abbrev pub ids_of : List Frame → List CallId
 ids_of frames = map (λ f. f.id) frames
 
--- the state after a call, where its reply is the one that is known, if one is
-abbrev pub IsOutcome : {State Reply : Type 0} → (State → State → Reply → Type 0) → State → Option Reply → Option State → Type 0
-IsOutcome {State} {Reply} Effect before known (Some after) = (reply : Reply) × Effect before after reply × IfSome known (λ r. r ≡ reply)
-IsOutcome {State} {Reply} Effect before known None = (after : State) × (reply : Reply) × Effect before after reply × (r : Reply) × (known ≡ Some r) × (r ≡ reply → ⊥)
-
 -- what a call made of a state
 abbrev pub IsMade : {State Meaning : Type 0} → (State → Meaning) → (ObjectCall → Meaning → Meaning → Reply → Type 0) → Meaning → Made State → Type 0
 IsMade meaning Effect before made = Effect (seen_call made.call) before (meaning made.state) (reply_of made.reply)
@@ -68,6 +64,12 @@ IsMade meaning Effect before made = Effect (seen_call made.call) before (meaning
 -- the call, made on the state, replies so
 abbrev pub IsTold : {M : Type 0} → (ObjectCall → M → M → Reply → Type 0) → M → Told → Type 0
 IsTold {M} Effect before told = (after : M) × Effect (seen_call told.call) before after (reply_of told.reply)
+
+-- the configuration at this place of those that were found is one in which the call replies so
+pub record IsHeardAt {State M S : Type 0} (meaning : State → M) (Effect : ObjectCall → M → M → Reply → Type 0) (seen : HashSet (Rust.Found State) S) (heard : Heard) : Type 0 where
+  pub found : Rust.Found State
+  pub at : slice_get seen.keys heard.place ≡ Some found
+  pub told : IsTold Effect (meaning found.state) heard.told
 
 -- what one call replies on the state is told, where no silent one may be taken
 abbrev pub IsNever : {M S : Type 0} → (ObjectCall → M → M → Reply → Type 0) → M → Silent S → Type 0

@@ -19,6 +19,12 @@ start_at processes opening = record { counts = replicate processes 0; state = op
 abbrev pub one_more : {State : Type 0} → List ℕ → ℕ → State → Configuration State
 one_more counts process state = record { counts = set counts process (get_or counts process 0 + 1); state = state }
 
+-- the call is counted too, the next one of its process
+pub record IsOneMore (before : List ℕ) (id : CallId) (counts : List ℕ) : Type 0 where
+  pub within : id.process < length before
+  pub number : id.number ≡ get_or before id.process 0 + 1
+  pub is : counts ≡ set before id.process id.number
+
 -- the call is one of those that are counted
 abbrev pub IsTaken : List ℕ → CallId → Type 0
 IsTaken counts id = (0 < id.number) × (id.number ≤ get_or counts id.process 0)

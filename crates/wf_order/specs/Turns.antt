@@ -4,8 +4,9 @@ use Rattle.wf_history.specs.declared.event.CallId.{CallId}
 use Rattle.wf_history.specs.History.{Event, Begin}
 use Rattle.wf_order.specs.declared.rows.Begun.{Begun}
 use Rattle.wf_order.specs.declared.rows.Rows.{Rows}
+use Rattle.wf_order.specs.declared.next_call.Next.{Next}
 use Rattle.wf_order.specs.declared.next_call.Turn.{Turn}
-use Rattle.wf_order.specs.Rows.{begun_rows, row_of}
+use Rattle.wf_order.specs.Rows.{begun_rows, ended_rows, row_of}
 
 -- the call begins at this place or behind it
 pub record BeginsFrom {Call Reply : Type 0} (history : List (Event Call Reply)) (from : ℕ) (id : CallId) : Type 0 where
@@ -17,6 +18,16 @@ pub record BeginsFrom {Call Reply : Type 0} (history : List (Event Call Reply)) 
 -- the next call of a process, where so many are taken
 abbrev pub IsNext : Rows → List ℕ → ℕ → Begun → Type 0
 IsNext rows counts process begun = slice_get (row_of (begun_rows rows) process) (get_or counts process 0) ≡ Some begun
+
+-- a process has no next call, or there is no such process
+abbrev pub HasNone : Rows → List ℕ → ℕ → Type 0
+HasNone rows counts process = process < length counts → slice_get (row_of (begun_rows rows) process) (get_or counts process 0) ≡ None
+
+-- this is the next call of its process, with its end, where it ends
+pub record IsNextOf (rows : Rows) (counts : List ℕ) (next : Next) : Type 0 where
+  pub within : next.process < length counts
+  pub begun : IsNext rows counts next.process next.begun
+  pub ended : slice_get (row_of (ended_rows rows) next.process) (get_or counts next.process 0) ≡ next.ended
 
 -- Of the next calls that begin at a place or behind it, and before the limit, this one begins first; where there is none, its
 -- place is the limit.

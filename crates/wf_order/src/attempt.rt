@@ -6,14 +6,15 @@ ghost use Rattle.wf_history.specs.History.{Event};
 ghost use Rattle.wf_order.specs.Rules.{AreIdle};
 ghost use Rattle.wf_order.specs.Search.{found_in, AreAllAnswered, AreAnswered, HasNoStep, IsAt, IsChoice, IsNextStep, IsTold, IsTry};
 ghost use Rattle.wf_order.specs.Steps.{Configuration};
+ghost use Rattle.wf_order.specs.Turns.{IsNextOf};
 
 use crate::behind::is_behind;
 use crate::compared_replies::{is_same_call, is_same_reply};
-use crate::next_call::{first_turn, turns_from};
+use crate::next_call::{Next, first_turn, next_of, turns_from};
 use crate::passing::replies_so;
 use crate::searched_object::Object;
 use crate::seen::Seen;
-use crate::step::{Here, Silent, Task, Told, any_silent_step, ended_call, step};
+use crate::step::{Here, Silent, Task, Told, any_silent_step, step_by};
 use crate::without::unless_left_out;
 use ob_interface::NoMemory;
 use wf_history::SeenReply;
@@ -26,129 +27,116 @@ pub(crate) struct Attempt<S> {
     pub state: S,
 }
 
-/// Notes what the next call of a process replies here, where it is silent and that is not noted already.
+/// Notes what a next call replies here, where it is silent and that is not noted already.
 fn note_told<'a, O: Object>(
     task: &Task<'_, 'a, O>,
     here: &Here<O::State>,
-    process: usize,
+    next: &Next<'a>,
     told: &mut Option<Told<'a>>,
 ) -> Result<(), NoMemory>
     requires { IfSome told.old (IsTold (O.effect task.now.object.now) (O.meaning here.now.found.now.state)) }
     ensures { OnOk result (IfSome told.new (IsTold (O.effect task.now.object.now) (O.meaning here.now.found.now.state))) }
 {
-    let Some(taken) = here.found.counts.get(process) else {
+    let Some(end) = next.ended else {
         return Ok(());
     };
-    if !task.quiet.may_come(process, *taken as usize, here.limit) {
+    let call = next.begun.call;
+    if !task.object.is_silent(call, end.reply) {
         return Ok(());
     }
-    let Some((begun, end)) = ended_call(task, here, process) else {
-        return Ok(());
-    };
-    let _fits = replies_so(task, &here.found.state, begun.call, end.reply, told)?;
+    let _fits = replies_so(task, &here.found.state, call, end.reply, told)?;
     Ok(())
 }
 
-/// Whether the next call of a process is known to have another reply here than in the history.
+/// Whether a next call is known to have another reply here than in the history.
 fn is_unfit<O: Object>(
     task: &Task<O>,
     here: &Here<O::State>,
-    process: usize,
+    next: &Next,
     told: &Option<Told>,
 ) -> bool
+    requires { IsNextOf task.now.rows.now here.now.found.now.counts.items next.now }
     ensures { (history : List (Event ObjectCall Reply)) → IsAt history task.now.rows.now here.now
         → IfSome told.now (IsTold (O.effect task.now.object.now) (O.meaning here.now.found.now.state))
-        → IsTrue result → HasNoStep (O.effect task.now.object.now) history (found_in O.meaning here.now.found.now) process }
+        → IsTrue result → HasNoStep (O.effect task.now.object.now) history (found_in O.meaning here.now.found.now) next.now.process }
 {
     let Some(told) = told else {
         return false;
     };
-    let Some(taken) = here.found.counts.get(process) else {
+    let Some(end) = next.ended else {
         return false;
     };
-    let place = *taken as usize;
-    let Some(begun) = task.rows.begun_at(process, place) else {
-        return false;
-    };
-    let Some(known) = task.rows.reply_at(process, place) else {
-        return false;
-    };
-    if !is_same_call(told.call, begun.call) {
+    if !is_same_call(told.call, next.begun.call) {
         return false;
     }
-    if is_same_reply(&told.reply, known) {
+    if is_same_reply(&told.reply, end.reply) {
         return false;
     }
     true
 }
 
-/// Whether the next call of a process never ends, and leaves each state as it is.
-fn is_idle<O: Object>(task: &Task<O>, here: &Here<O::State>, process: usize) -> bool
+/// Whether a next call never ends, and leaves each state as it is.
+fn is_idle<O: Object>(task: &Task<O>, here: &Here<O::State>, next: &Next) -> bool
+    requires { IsNextOf task.now.rows.now here.now.found.now.counts.items next.now }
     ensures { (history : List (Event ObjectCall Reply)) → IsAt history task.now.rows.now here.now → IsTrue result
-        → AreIdle (O.effect task.now.object.now) history (found_in O.meaning here.now.found.now) process }
+        → AreIdle (O.effect task.now.object.now) history (found_in O.meaning here.now.found.now) next.now.process }
 {
-    let Some(taken) = here.found.counts.get(process) else {
+    let None = next.ended else {
         return false;
     };
-    let place = *taken as usize;
-    let None = task.rows.ended_at(process, place) else {
-        return false;
-    };
-    let Some(begun) = task.rows.begun_at(process, place) else {
-        return false;
-    };
-    task.object.is_reader(begun.call)
+    task.object.is_reader(next.begun.call)
 }
 
-/// Whether the next call of a process ends with values, so that its reply mostly fits in few states.
-fn ends_with_values<O: Object>(task: &Task<O>, here: &Here<O::State>, process: usize) -> bool {
-    let Some(taken) = here.found.counts.get(process) else {
+/// Whether a next call ends with values, so that its reply mostly fits in few states.
+fn ends_with_values(next: &Next) -> bool {
+    let Some(end) = next.ended else {
         return false;
     };
-    match task.rows.reply_at(process, *taken as usize) {
-        Some(SeenReply::Done(values)) => !values.lent().as_slice().is_empty(),
-        _ => false,
+    match end.reply {
+        SeenReply::Done(values) => !values.lent().as_slice().is_empty(),
+        SeenReply::Trap(_) => false,
     }
 }
 
-/// The state that the next call of a process leads to, where it is to be tried. In a hard search, of which this was found, it looks closer
+/// The state that a next call leads to, where it is to be tried. In a hard search, of which this was found, it looks closer
 /// at open calls.
 fn tried<O: Object>(
     task: &Task<O>,
     here: &Here<O::State>,
-    process: usize,
+    next: &Next,
     told: &Option<Told>,
     hard: Option<&Seen<O::State>>,
 ) -> Result<Option<O::State>, NoMemory>
+    requires { IsNextOf task.now.rows.now here.now.found.now.counts.items next.now }
     ensures { (history : List (Event ObjectCall Reply)) (found : List (Configuration O.Meaning)) → IsAt history task.now.rows.now here.now
         → IfSome told.now (IsTold (O.effect task.now.object.now) (O.meaning here.now.found.now.state))
-        → IfOk result (λ o. MatchOption o (AreAnswered (O.effect task.now.object.now) history found (found_in O.meaning here.now.found.now) process)
-        (λ state. IsNextStep (O.effect task.now.object.now) history (found_in O.meaning here.now.found.now) process (O.meaning state))) }
+        → IfOk result (λ o. MatchOption o (AreAnswered (O.effect task.now.object.now) history found (found_in O.meaning here.now.found.now) next.now.process)
+        (λ state. IsNextStep (O.effect task.now.object.now) history (found_in O.meaning here.now.found.now) next.now.process (O.meaning state))) }
 {
-    if is_unfit(task, here, process, told) {
+    if is_unfit(task, here, next, told) {
         return Ok(None);
     }
-    if is_idle(task, here, process) {
+    if is_idle(task, here, next) {
         return Ok(None);
     }
     // Where its values mostly don't fit, no equal call is looked for before that is known.
-    let fits_rarely = ends_with_values(task, here, process);
+    let fits_rarely = ends_with_values(next);
     if !fits_rarely {
-        if is_behind(task, here, process)? {
+        if is_behind(task, here, next)? {
             return Ok(None);
         }
     }
-    let Some(state) = step(task, here, process)? else {
+    let Some(state) = step_by(task, here, next)? else {
         return Ok(None);
     };
     if fits_rarely {
-        if is_behind(task, here, process)? {
+        if is_behind(task, here, next)? {
             return Ok(None);
         }
     }
     match hard {
         None => Ok(Some(state)),
-        Some(seen) => unless_left_out(task, here, seen, process, state),
+        Some(seen) => unless_left_out(task, here, seen, next.process, state),
     }
 }
 
@@ -175,14 +163,16 @@ fn next_attempt<'a, O: Object>(
         if turn.place >= limit {
             return Ok(None);
         }
-        let process = turn.process;
-        note_told(task, here, process, &mut told)?;
+        let Some(call) = next_of(task.rows, &here.found.counts, turn.process) else {
+            unreachable!()
+        };
+        note_told(task, here, &call, &mut told)?;
         let next = turn.place + 1;
-        match tried(task, here, process, &told, hard)? {
+        match tried(task, here, &call, &told, hard)? {
             Some(state) => {
                 return Ok(Some(Attempt {
                     next,
-                    process,
+                    process: turn.process,
                     state,
                 }));
             }
@@ -193,20 +183,22 @@ fn next_attempt<'a, O: Object>(
 }
 
 /// What is tried next from a configuration: at first a silent call, where one may be taken, and then nothing else; and else a call that
-/// begins at a place or behind it.
-pub(crate) fn chosen<O: Object>(
-    task: &Task<O>,
+/// begins at a place or behind it, where it is known what one call replies here.
+pub(crate) fn chosen<'a, O: Object>(
+    task: &Task<'_, 'a, O>,
     here: &Here<O::State>,
     from: usize,
     hard: Option<&Seen<O::State>>,
+    known: Option<Told<'a>>,
 ) -> Result<Option<Attempt<O::State>>, NoMemory>
+    requires { IfSome known (IsTold (O.effect task.now.object.now) (O.meaning here.now.found.now.state)) }
     ensures chosen { (history : List (Event ObjectCall Reply)) (found : List (Configuration O.Meaning)) → IsAt history task.now.rows.now here.now
         → IfOk result (λ o. MatchOption o (AreAllAnswered (O.effect task.now.object.now) history found (found_in O.meaning here.now.found.now) from)
         (λ a. IsChoice (O.effect task.now.object.now) history task.now.rows.now found (found_in O.meaning here.now.found.now) from here.now.limit a.next a.process (O.meaning a.state))) }
     ensures within { IfOk result (λ o. IfSome o (λ a. a.process < length here.now.found.now.counts.items)) }
 {
     if from > 0 {
-        return next_attempt(task, here, from, hard, None);
+        return next_attempt(task, here, from, hard, known);
     }
     match any_silent_step(task, here)? {
         Silent::Step(process, state) => Ok(Some(Attempt {
@@ -214,6 +206,7 @@ pub(crate) fn chosen<O: Object>(
             process,
             state,
         })),
+        Silent::Never(None) => next_attempt(task, here, from, hard, known),
         Silent::Never(told) => next_attempt(task, here, from, hard, told),
     }
 }

@@ -8,7 +8,7 @@ use ob_interface::call::Reply;
 use wf_history::{SeenCall, SeenReply};
 
 /// Whether a reply is that of the history.
-pub(crate) fn is_same_reply(reply: &Reply, other: SeenReply) -> bool
+pub fn is_same_reply(reply: &Reply, other: SeenReply) -> bool
     ensures { IsTrue result ↔ (reply_of reply.now ≡ seen_reply other.entry) }
 {
     match (reply, other) {

@@ -100,11 +100,12 @@ pub(crate) fn go_on<O: Object>(
     ensures found { IfOk result (IsFound (O.effect task.now.object.now) (O.opening task.now.object.now) (map event_of task.now.events.now)) }
     ensures grown { IfOk result (λ front. IsGrown seen.old.keys seen.new.keys) }
 {
+    let mut heard = None;
     while let Some(frame) = stack.pop() {
         if seen.len() > most {
             return Ok(Front::Unknown);
         }
-        if let Some(_order) = advance(task, seen, &mut stack, frame)? {
+        if let Some(_order) = advance(task, seen, &mut stack, frame, &mut heard)? {
             return Ok(Front::Legal);
         }
     }

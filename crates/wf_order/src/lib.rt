@@ -10,7 +10,7 @@
 
 mod attempt;
 mod behind;
-mod compared_replies;
+pub mod compared_replies;
 pub mod counted_processes;
 pub mod find;
 mod front;

@@ -1,12 +1,34 @@
 //! Which call of a configuration is tried next: the one that begins first.
 
-ghost use Rattle.std.specs.Prelude.{IfOk, length};
-ghost use Rattle.wf_order.specs.Turns.{AreTurns, IsFirstIn};
+ghost use Rattle.std.specs.Prelude.{◌≡◌, IfOk, MatchOption, length};
+ghost use Rattle.wf_order.specs.Turns.{AreTurns, HasNone, IsFirstIn, IsNextOf};
 
-use crate::rows::Rows;
+use crate::rows::{Begun, Ended, Rows};
 use ob_interface::NoMemory;
 use smallvec::SmallVec;
 use std::alloc::Global;
+
+/// The next call of a process, and its end, where it ends.
+#[derive(Clone, Copy)]
+pub(crate) struct Next<'a> {
+    pub process: usize,
+    pub begun: Begun<'a>,
+    pub ended: Option<Ended<'a>>,
+}
+
+/// The next call of a process, if it has one.
+pub(crate) fn next_of<'a>(rows: &Rows<'a>, counts: &[u32], process: usize) -> Option<Next<'a>>
+    ensures { MatchOption result (HasNone rows.now counts.now process) (λ next. (next.process ≡ process) × IsNextOf rows.now counts.now next) }
+{
+    let place = *counts.get(process)? as usize;
+    let begun = rows.begun_at(process, place)?;
+    let ended = rows.ended_at(process, place);
+    Some(Next {
+        process,
+        begun,
+        ended,
+    })
+}
 
 /// A call that may be next, by its process and the place at which it begins.
 #[derive(Clone, Copy, Default)]
@@ -22,7 +44,7 @@ pub(crate) fn turns_from(
     counts: &[u32],
     from: usize,
     limit: usize,
-) -> Result<SmallVec<Turn, 8>, NoMemory>
+) -> Result<SmallVec<Turn, 16>, NoMemory>
     ensures { IfOk result (λ turns. AreTurns rows.now counts.now (length counts.now) from limit turns.items) }
 {
     let mut turns = SmallVec::new(alloc);

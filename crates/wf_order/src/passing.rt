@@ -9,7 +9,7 @@ ghost use Rattle.wf_order.specs.Search.{found_in, HasNext, IsAt, IsPassed, IsRea
 ghost use Rattle.wf_order.specs.Steps.{IsLimit};
 
 use crate::compared_replies::{is_same_call, is_same_reply};
-use crate::rows::limit_of;
+use crate::rows::next_limit;
 use crate::search::Frame;
 use crate::searched_object::Object;
 use crate::seen::Found;
@@ -95,30 +95,32 @@ fn reader_at<'a, O: Object>(
     Ok(None)
 }
 
-/// A configuration, moved on by all calls that only read and may be taken with their replies, and its limit. For each of them there is
-/// a frame on the stack, from which nothing is to be tried.
-pub(crate) fn passed<O: Object>(
-    task: &Task<O>,
+/// Moves a configuration, with its limit, on by all calls that only read and may be taken with their replies, and gives the limit behind
+/// them, and what a call replies there, if one was made. For each of them there is a frame on the stack, from which nothing is to be tried.
+pub(crate) fn passed<'a, O: Object>(
+    task: &Task<'_, 'a, O>,
     stack: &mut Vec<Frame>,
     place: usize,
-    found: Found<O::State>,
-) -> Result<(Found<O::State>, usize), NoMemory>
-    requires { IsWorded O.meaning O.words_of found }
-    ensures passed { (history : List (Event ObjectCall Reply)) → AreRows history (length found.counts.items) task.now.rows.now
-        → IfOk result (λ to. IsPassed (O.effect task.now.object.now) history place (found_in O.meaning found) (found_in O.meaning to.0) stack.old.items stack.new.items) }
-    ensures limit { (history : List (Event ObjectCall Reply)) → AreRows history (length found.counts.items) task.now.rows.now
-        → IfOk result (λ to. IsLimit history to.0.counts.items to.1) }
-    ensures worded { IfOk result (λ to. IsWorded O.meaning O.words_of to.0) }
+    there: &mut Found<O::State>,
+    limit: usize,
+) -> Result<(usize, Option<Told<'a>>), NoMemory>
+    requires { IsWorded O.meaning O.words_of there.old }
+    ensures passed { (history : List (Event ObjectCall Reply)) → AreRows history (length there.old.counts.items) task.now.rows.now → IsLimit history there.old.counts.items limit
+        → OnOk result (IsPassed (O.effect task.now.object.now) history place (found_in O.meaning there.old) (found_in O.meaning there.new) stack.old.items stack.new.items) }
+    ensures limit { (history : List (Event ObjectCall Reply)) → AreRows history (length there.old.counts.items) task.now.rows.now → IsLimit history there.old.counts.items limit
+        → IfOk result (λ to. IsLimit history there.new.counts.items to.0) }
+    ensures worded { OnOk result (IsWorded O.meaning O.words_of there.new) }
+    ensures told { IfOk result (λ to. IfSome to.1 (IsTold (O.effect task.now.object.now) (O.meaning there.new.state))) }
 {
-    let mut there = found;
     let mut told = None;
     let mut from = 0;
-    let mut limit = limit_of(task.rows, &there.counts);
+    let mut limit = limit;
     while let Some(process) = reader_at(
         task,
         &Here {
-            found: &there,
+            found: &*there,
             limit,
+            last: 0,
         },
         from,
         &mut told,
@@ -134,10 +136,10 @@ pub(crate) fn passed<O: Object>(
             id,
             limit,
         })?;
-        let next = limit_of(task.rows, &there.counts);
+        let next = next_limit(task.rows, &there.counts, id, limit);
         // Where no more calls may be taken than before, those of the processes before this one were asked.
         from = (next <= limit).then_some(process).unwrap_or(0);
         limit = next;
     }
-    Ok((there, limit))
+    Ok((limit, told))
 }

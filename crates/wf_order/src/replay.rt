@@ -7,7 +7,6 @@ ghost use Rattle.wf_order.specs.Listed.{Ends, Replays};
 
 use crate::Object;
 use crate::listed_calls::Listed;
-use crate::step::outcome;
 use ob_interface::NoMemory;
 use std::alloc::Global;
 
@@ -75,7 +74,7 @@ fn both_after<O: Object>(
         (λ p. Ends (O.effect object.now) listed.now (O.meaning without.now) (O.meaning p.without))) }
     ensures with { IfOk result (λ to. IfSome to (λ p. (reply : AnyReply) × O.effect object.now (seen_call listed.now.call) (O.meaning with.now) (O.meaning p.with) reply)) }
 {
-    let Some(without) = outcome(alloc, object, without, listed.call, listed.reply)? else {
+    let Some(without) = object.outcome(alloc, without, listed.call, listed.reply)? else {
         return Ok(None);
     };
     let with = after(alloc, object, with, listed)?;

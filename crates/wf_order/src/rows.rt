@@ -7,11 +7,11 @@ ghost use Rattle.wf_history.specs.History.{Event as AnyEvent, IsHistory};
 ghost use Rattle.wf_history.specs.View.{event_of};
 ghost use Rattle.wf_order.specs.Beginnings.{needed, process_count};
 ghost use Rattle.wf_order.specs.Rows.{AreRows, AreNoted, IsOfProcesses, row_of};
-ghost use Rattle.wf_order.specs.Steps.{IsLimit};
+ghost use Rattle.wf_order.specs.Steps.{IsLimit, IsOneMore};
 
 use ob_interface::NoMemory;
 use std::alloc::Global;
-use wf_history::{Event, SeenCall, SeenEvent, SeenReply};
+use wf_history::{CallId, Event, SeenCall, SeenEvent, SeenReply};
 
 /// A call, and its place among the events.
 #[derive(Clone, Copy)]
@@ -160,4 +160,19 @@ pub(crate) fn limit_of(rows: &Rows, counts: &[u32]) -> usize
         }
     }
     limit
+}
+
+/// The limit behind one more call, where it was this before: it moves only where that call ends there.
+pub(crate) fn next_limit(rows: &Rows, counts: &[u32], id: CallId, limit: usize) -> usize
+    requires { 0 < id.number }
+    ensures { (history : List (AnyEvent ObjectCall Reply)) (before : List ℕ) → AreRows history (length counts.now) rows.now → IsOneMore before id counts.now
+        → IsLimit history before limit → IsLimit history counts.now result }
+{
+    let Some(end) = rows.ended_at(id.process, (id.number - 1) as usize) else {
+        return limit;
+    };
+    if end.place != limit {
+        return limit;
+    }
+    limit_of(rows, counts)
 }

@@ -11,11 +11,12 @@ pub type Words = SmallVec<u64, 2>;
 
 /// An object that is used by one call at a time. What a call does is determined by the state and the call.
 pub trait Object {
-    ghost use Rattle.std.specs.Prelude.{◌≡◌, ℕ, List, IfOk, IsTrue};
+    ghost use Rattle.std.specs.Prelude.{◌≡◌, ℕ, List, IfOk, IsTrue, option_map};
     ghost use Rattle.ob_interface.specs.Call.{ObjectCall, Reply};
     ghost use Rattle.ob_interface.specs.Call.{Reply as AnyReply};
     ghost use Rattle.ob_interface.specs.View.{reply_of};
     ghost use Rattle.wf_history.specs.View.{seen_call, seen_reply};
+    ghost use Rattle.wf_order.specs.Rules.{IsOutcome};
 
     /// How a state is kept.
     type State: Drop;
@@ -46,6 +47,16 @@ pub trait Object {
         call: SeenCall,
     ) -> Result<(Self::State, Reply), NoMemory>
         ensures { IfOk result (λ made. effect self.now (seen_call call.entry) (meaning state.now) (meaning made.0) (reply_of made.1)) };
+
+    /// What a call makes of a state, where its reply is the one that is known, if one is, and nothing where it is another one.
+    fn outcome(
+        &self,
+        alloc: Global,
+        state: &Self::State,
+        call: SeenCall,
+        known: Option<SeenReply>,
+    ) -> Result<Option<Self::State>, NoMemory>
+        ensures { IfOk result (λ to. IsOutcome (effect self.now (seen_call call.entry)) (meaning state.now) (option_map seen_reply known.entry) (option_map meaning to)) };
 
     /// The state in words. No two states have the same ones.
     fn words(&self, alloc: Global, state: &Self::State) -> Result<Words, NoMemory>

@@ -5,10 +5,14 @@ ghost use Rattle.ob_interface.specs.Call.{ObjectCall, Reply};
 ghost use Rattle.wf_history.specs.History.{Event};
 ghost use Rattle.wf_order.specs.Rows.{AreAt, AreRows, call_at};
 ghost use Rattle.wf_order.specs.Rules.{ComesFirst, AreAlike, HasSooner};
+ghost use Rattle.wf_order.specs.Search.{IsAt};
 ghost use Rattle.wf_order.specs.Steps.{IsLimit};
+ghost use Rattle.wf_order.specs.Turns.{IsNextOf};
 
 use crate::compared_replies::{are_same_replies, is_same_call};
+use crate::next_call::Next;
 use crate::rows::{Begun, Ended, Rows};
+use crate::step::Here;
 
 /// A call by its process and its place in the row.
 #[derive(Clone, Copy)]
@@ -75,29 +79,29 @@ fn is_sooner(rows: &Rows, limit: usize, first: Spot, begun: Begun, end: Ended) -
     is_same_call(sooner_begun.call, begun.call)
 }
 
-/// Whether the next call of a process need not be tried.
-pub(crate) fn has_sooner(rows: &Rows, limit: usize, counts: &[u32], process: usize) -> bool
-    ensures { (history : List (Event ObjectCall Reply)) → AreRows history (length counts.now) rows.now → IsLimit history counts.now limit
-        → IsTrue result → HasSooner history counts.now (call_at process (get_or counts.now process 0)) }
+/// Whether a next call need not be tried, since an equal one of another process ends sooner.
+pub(crate) fn has_sooner<S>(rows: &Rows, here: &Here<S>, next: &Next) -> bool
+    requires { IsNextOf rows.now here.now.found.now.counts.items next.now }
+    ensures { (history : List (Event ObjectCall Reply)) → IsAt history rows.now here.now
+        → IsTrue result → HasSooner history here.now.found.now.counts.items (call_at next.now.process (get_or here.now.found.now.counts.items next.now.process 0)) }
 {
-    let Some(count) = counts.get(process) else {
-        return false;
-    };
-    let place = *count as usize;
-    let Some(begun) = rows.begun_at(process, place) else {
-        return false;
-    };
-    let Some(end) = rows.ended_at(process, place) else {
+    let Some(end) = next.ended else {
         return false;
     };
     // No call that is not taken ends before the limit.
-    if end.place <= limit {
+    if end.place <= here.limit {
         return false;
     }
-    for (process, count) in counts.iter().enumerate() {
+    let counts = here.found.counts.as_slice();
+    // That of the process whose call was tried last comes first: mostly it is the one.
+    for turn in 0..=counts.len() {
+        let process = turn.checked_sub(1).unwrap_or(here.last);
+        let Some(count) = counts.get(process) else {
+            continue;
+        };
         let place = *count as usize;
         let first = Spot { process, place };
-        if is_sooner(rows, limit, first, begun, end) {
+        if is_sooner(rows, here.limit, first, next.begun, end) {
             return true;
         }
     }

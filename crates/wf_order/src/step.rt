@@ -5,11 +5,13 @@ ghost use Rattle.smallvec.specs.SmallVec.{small_vec_len};
 ghost use Rattle.ob_interface.specs.Call.{ObjectCall, Reply};
 ghost use Rattle.wf_history.specs.History.{Event as AnyEvent};
 ghost use Rattle.wf_history.specs.View.{seen_call, seen_reply};
-ghost use Rattle.wf_order.specs.Search.{found_in, HasNoStep, IsNever, IsNextStep, IsOfFirst, IsSilentFound, IsMade, IsOutcome, IsAt, IsWorded, MayBeTaken};
+ghost use Rattle.wf_order.specs.Search.{found_in, HasNoStep, IsNever, IsNextStep, IsOfFirst, IsSilentFound, IsMade, IsAt, IsWorded, MayBeTaken};
 ghost use Rattle.wf_order.specs.Rows.{call_at};
 ghost use Rattle.wf_order.specs.Steps.{one_more};
+ghost use Rattle.wf_order.specs.Turns.{IsNextOf};
 
 use crate::compared_replies::{is_same_call, is_same_reply};
+use crate::next_call::Next;
 use crate::quiet::Quiet;
 use crate::rows::{Begun, Ended, Rows};
 use crate::searched_object::Object;
@@ -29,11 +31,13 @@ pub(crate) struct Task<'r, 'a, O> {
     pub quiet: &'r Quiet,
 }
 
-/// A configuration, with the first place at which a call ends that is not taken there.
+/// A configuration, with the first place at which a call ends that is not taken there, and the process whose call was tried last: where
+/// others have an equal call, it mostly has the one that ends first.
 #[derive_where(Clone, Copy)]
 pub(crate) struct Here<'a, S> {
     pub found: &'a Found<S>,
     pub limit: usize,
+    pub last: usize,
 }
 
 /// What a call made of a state.
@@ -51,6 +55,13 @@ pub(crate) struct Told<'a> {
     pub reply: call::Reply,
 }
 
+/// What a call replies in the configuration at a place of those that were found.
+#[derive(Drop)]
+pub(crate) struct Heard<'a> {
+    pub place: usize,
+    pub told: Told<'a>,
+}
+
 /// What it comes to that a silent call is looked for.
 #[derive(Drop)]
 pub(crate) enum Silent<'a, S> {
@@ -58,30 +69,6 @@ pub(crate) enum Silent<'a, S> {
     Step(usize, S),
     /// None may be taken. What one call replies, if one was made.
     Never(Option<Told<'a>>),
-}
-
-/// What a call makes of a state, where its reply is the one that is known, if one is.
-#[inline(always)]
-pub(crate) fn outcome<O: Object>(
-    alloc: Global,
-    object: &O,
-    state: &O::State,
-    call: SeenCall,
-    known: Option<SeenReply>,
-) -> Result<Option<O::State>, NoMemory>
-    ensures { IfOk result (λ to. IsOutcome (O.effect object.now (seen_call call.entry)) (O.meaning state.now) (option_map seen_reply known.entry) (option_map O.meaning to)) }
-{
-    let (next, reply) = object.apply(alloc, state, call)?;
-    match known {
-        None => Ok(Some(next)),
-        Some(other) => {
-            if is_same_reply(&reply, other) {
-                Ok(Some(next))
-            } else {
-                Ok(None)
-            }
-        }
-    }
 }
 
 /// Takes the next call of a process, and gives its number.
@@ -127,34 +114,27 @@ pub(crate) fn one_more<O: Object>(
     Ok((id, found))
 }
 
-/// The state that the next call of a process leads to, where it may be taken and has the history's reply.
-pub(crate) fn step<O: Object>(
+/// The state that a next call leads to, where it may be taken and has the history's reply.
+pub(crate) fn step_by<O: Object>(
     task: &Task<O>,
     here: &Here<O::State>,
-    process: usize,
+    next: &Next,
 ) -> Result<Option<O::State>, NoMemory>
+    requires { IsNextOf task.now.rows.now here.now.found.now.counts.items next.now }
     ensures { (history : List (AnyEvent ObjectCall Reply)) → IsAt history task.now.rows.now here.now
-        → IfOk result (λ stepped. MatchOption stepped (HasNoStep (O.effect task.now.object.now) history (found_in O.meaning here.now.found.now) process)
-        (λ state. IsNextStep (O.effect task.now.object.now) history (found_in O.meaning here.now.found.now) process (O.meaning state))) }
+        → IfOk result (λ stepped. MatchOption stepped (HasNoStep (O.effect task.now.object.now) history (found_in O.meaning here.now.found.now) next.now.process)
+        (λ state. IsNextStep (O.effect task.now.object.now) history (found_in O.meaning here.now.found.now) next.now.process (O.meaning state))) }
 {
-    let Some(taken) = here.found.counts.get(process) else {
-        return Ok(None);
-    };
-    let place = *taken as usize;
-    let Some(begun) = task.rows.begun_at(process, place) else {
-        return Ok(None);
-    };
-    if begun.place >= here.limit {
+    if next.begun.place >= here.limit {
         return Ok(None);
     }
-    let known = task.rows.reply_at(process, place);
-    outcome(
-        task.alloc,
-        task.object,
-        &here.found.state,
-        begun.call,
-        known,
-    )
+    let known = match next.ended {
+        Some(end) => Some(end.reply),
+        None => None,
+    };
+    let call = next.begun.call;
+    task.object
+        .outcome(task.alloc, &here.found.state, call, known)
 }
 
 /// What a call makes of a state: what an equal one made of it, where one was made, so that none is made twice.

@@ -10,7 +10,7 @@ ghost use Rattle.wf_order.specs.Search.{found_in, IsAt, IsNextStep};
 use crate::replay::are_same;
 use crate::searched_object::Object;
 use crate::seen::Seen;
-use crate::step::{Here, Task, one_more, outcome};
+use crate::step::{Here, Task, one_more};
 use ob_interface::NoMemory;
 use wf_history::{SeenCall, SeenReply};
 
@@ -27,10 +27,10 @@ fn has_same_outcome<O: Object>(
 {
     let alloc = task.alloc;
     let object = task.object;
-    let Some(after) = outcome(alloc, object, behind, call, known)? else {
+    let Some(after) = object.outcome(alloc, behind, call, known)? else {
         return Ok(true);
     };
-    let Some(other) = outcome(alloc, object, &here.found.state, call, known)? else {
+    let Some(other) = object.outcome(alloc, &here.found.state, call, known)? else {
         return Ok(false);
     };
     are_same(alloc, object, &other, &after)

@@ -1,7 +1,9 @@
 -- By the turns, one after the other.
-use Rattle.std.proofs.Common.{◌<◌, get_or, arith}
+use Rattle.std.proofs.Common.{◌≡◌, sym, ap, subst, ◌∙◌, ℕ, ◌<◌, List, length, get_or, Option, Some, None, arith}
+use Rattle.std.specs.Prelude.{MatchOption, slice_get}
 use Rattle.std.proofs.lemmas.Option.{MatchOption-at_none, MatchOption-at_some}
-use Rattle.wf_order.specs.Rows.{call_at}
+use Rattle.wf_order.specs.declared.rows.Begun.{Begun}
+use Rattle.wf_order.specs.Rows.{begun_rows, call_at, row_of}
 use Rattle.wf_order.specs.Search.{found_in, AreAnswered, IsNextStep}
 use Rattle.wf_order.specs.Steps.{one_more}
 use Rattle.wf_order.proofs.Turning.{first_here}
@@ -31,8 +33,19 @@ returns-then-turn-limit-clause-next g c = λ history found at.
     all_tried (g.O.Object.effect c.args.task.now.object.now) history c.args.task.now.rows.now found here at.0 limit at.1 c.args.from
     c.loop-start.start (c.loop-start.invariant.1 history found at).0 turn first c.if-turn-limit.true
 
-pub returns-in-Some-clause-next : goal.returns-in-Some-clause-next
-returns-in-Some-clause-next g c = λ history found at.
+pub unreachable-requires : goal.unreachable-requires
+unreachable-requires g c =
+    let turn = c.first_turn-turn.result in
+    let row = row_of (begun_rows c.args.task.now.rows.now) turn.process in
+    let first = first_here c.args.task.now.rows.now c.deref.result.now c.args.here.now.found.now.counts.items c.deref.ensures c.args.from c.loop-start.start c.args.here.now.limit c.in_ok-turns.turns.items c.as_slice.result.now c.as_slice.ensures turn
+    c.in_ok-turns.ensures c.loop-start.invariant.2 c.first_turn-turn.ensures in
+    let own = first.own (let f = c.if-turn-limit.false in omega (arith, f)) in
+    let none = c.in_default.ensures (subst (λ (l : List ℕ). turn.process < length l) (sym c.deref-in-loop-start.ensures) own.1) in
+    let there : ◌≡◌ {A = Option Begun} None (Some own.0) = sym none ∙ ap (λ (l : List ℕ). slice_get row (get_or l turn.process 0)) c.deref-in-loop-start.ensures ∙ own.2 in
+    absurd (cc)
+
+pub returns-in-Some-2-clause-next : goal.returns-in-Some-2-clause-next
+returns-in-Some-2-clause-next g c = λ history found at.
     let effect = g.O.Object.effect c.args.task.now.object.now in
     let view = found_in g.O.Object.meaning in
     let here = view c.args.here.now.found.now in
@@ -42,12 +55,14 @@ returns-in-Some-clause-next g c = λ history found at.
     c.in_ok-turns.ensures c.loop-start.invariant.2 c.first_turn-turn.ensures in
     let early : turn.place < limit = let f = c.if-turn-limit.false in omega (arith, f) in
     let covered = c.loop-start.invariant.1 history found at in
-    let after = g.O.Object.meaning c.in-Some.state in
-    let only = MatchOption-at_some (AreAnswered effect history found here turn.process) (λ s. IsNextStep effect history here turn.process (g.O.Object.meaning s)) c.in-Some.state c.in-Some.is (c.in_ok-state.ensures history found at c.in_ok-note_told.ensures) in
+    let after = g.O.Object.meaning c.in-Some-2.state in
+    let tried = subst (λ (p : ℕ). MatchOption c.in_ok-state.field-0 (AreAnswered effect history found here p) (λ s. IsNextStep effect history here p (g.O.Object.meaning s))) c.in-Some.ensures.0
+    (c.in_ok-state.ensures history found at c.in_ok-note_told.ensures) in
+    let only = MatchOption-at_some (AreAnswered effect history found here turn.process) (λ s. IsNextStep effect history here turn.process (g.O.Object.meaning s)) c.in-Some-2.state c.in-Some-2.is tried in
     attempt effect history c.args.task.now.rows.now found here at.0 limit at.1 c.args.from c.loop-start.start covered.0 turn first early covered.1 (call_at turn.process (get_or here.counts turn.process 0)) (one_more here.counts turn.process after) only
 
-pub returns-in-Some-clause-within : goal.returns-in-Some-clause-within
-returns-in-Some-clause-within g c =
+pub returns-in-Some-2-clause-within : goal.returns-in-Some-2-clause-within
+returns-in-Some-2-clause-within g c =
     let turn = c.first_turn-turn.result in
     let first = first_here c.args.task.now.rows.now c.deref.result.now c.args.here.now.found.now.counts.items c.deref.ensures c.args.from c.loop-start.start c.args.here.now.limit c.in_ok-turns.turns.items c.as_slice.result.now c.as_slice.ensures turn
     c.in_ok-turns.ensures c.loop-start.invariant.2 c.first_turn-turn.ensures in
@@ -67,7 +82,9 @@ loop-start-preserved g c = (
       c.in_ok-turns.ensures c.loop-start.invariant.2 c.first_turn-turn.ensures in
       let early : turn.place < limit = let f = c.if-turn-limit.false in omega (arith, f) in
       let covered = c.loop-start.invariant.1 history found at in
-      let answered = MatchOption-at_none (AreAnswered effect history found here turn.process) (λ s. IsNextStep effect history here turn.process (g.O.Object.meaning s)) c.in-None.is (c.in_ok-state.ensures history found at c.in_ok-note_told.ensures) in
+      let tried = subst (λ (p : ℕ). MatchOption c.in_ok-state.field-0 (AreAnswered effect history found here p) (λ s. IsNextStep effect history here p (g.O.Object.meaning s))) c.in-Some.ensures.0
+      (c.in_ok-state.ensures history found at c.in_ok-note_told.ensures) in
+      let answered = MatchOption-at_none (AreAnswered effect history found here turn.process) (λ s. IsNextStep effect history here turn.process (g.O.Object.meaning s)) c.in-None.is tried in
       let left = turns_left effect history c.args.task.now.rows.now found here at.0 limit at.1 c.args.from c.loop-start.start covered.0 turn first early covered.1 in (
         covered_more effect history c.args.task.now.rows.now found here at.0 limit at.1 c.args.from c.loop-start.start covered.0 turn first early answered,
         omega (arith, left),

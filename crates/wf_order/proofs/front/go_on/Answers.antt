@@ -24,6 +24,9 @@ advance-requires-clause-place g c =
     let size = length-map c.loop-frame.seen.keys view in
     omega (arith, within, size)
 
+pub advance-requires-clause-heard : goal.advance-requires-clause-heard
+advance-requires-clause-heard g c = c.loop-frame.invariant.heard
+
 pub returns-in-Some-2-clause-found : goal.returns-in-Some-2-clause-found
 returns-in-Some-2-clause-found g c =
     let effect = g.O.Object.effect c.args.task.now.object.now in
@@ -60,6 +63,7 @@ loop-frame-preserved g c =
       search = both.0;
       worded = c.in_ok-_order.ensures.worded;
       grown = (old.0 ++ new.0, new.1 ∙ ap (λ (l : List (Found g.row.O-State.Denot)). l ++ new.0) old.1 ∙ append_assoc c.args.seen.now.keys old.0 new.0);
+      heard = c.in_ok-_order.ensures.heard;
     }
 
 pub returns-clause-found : goal.returns-clause-found

@@ -1,5 +1,5 @@
 -- One call that only reads more.
-use Rattle.std.proofs.Common.{◌≡◌, refl, sym, ap, subst, ◌∙◌, ℕ, ◌+◌, ◌<◌, ◌≤◌, List, [], ◌∷◌, ◌++◌, get_or, length, length-set, map, append_assoc, arith, inl, inr}
+use Rattle.std.proofs.Common.{◌≡◌, refl, sym, ap, subst, ◌∙◌, ℕ, ◌+◌, ◌<◌, ◌≤◌, List, [], ◌∷◌, ◌++◌, get_or, length, length-set, map, set, append_assoc, arith, inl, inr}
 use Rattle.std.proofs.lemmas.List.{append-nil, map-append}
 use Rattle.std.proofs.lemmas.List.Elements.{Contains-push_cases}
 use Rattle.std.specs.List.{Contains}
@@ -20,16 +20,13 @@ nothing : (f : Frame) → Contains [] f → ⊥
 nothing f there = let p = place_of [] f there in let e = p.1 in absurd (cc)
 
 pub loop-told-init : goal.loop-told-init
-loop-told-init g c =
-    let rows = c.args.task.now.rows.now in record {
-      told = tt;
-      worded = c.requires;
-      sized = refl;
-      passed = λ history are. record { frames = []; pushed = sym (append-nil c.args.stack.now.items); past = λ f there. absurd (nothing f there); passes = none_passed };
-      limit = λ history are.
-          subst (λ (xs : List ℕ). IsLimit history xs c.limit_of-limit.result) c.deref.ensures
-          (c.limit_of-limit.ensures history (subst (λ (xs : List ℕ). AreRows history (length xs) rows) (sym c.deref.ensures) are));
-    }
+loop-told-init g c = record {
+  told = tt;
+  worded = c.requires;
+  sized = refl;
+  passed = λ history are bound. record { frames = []; pushed = sym (append-nil c.args.stack.now.items); past = λ f there. absurd (nothing f there); passes = none_passed };
+  limit = λ history are bound. bound;
+}
 
 pub reader_at-requires : goal.reader_at-requires
 reader_at-requires g c = c.loop-told.invariant.told
@@ -52,7 +49,7 @@ loop-told-preserved g c =
     let set_is = c.in_ok-number.ensures.counts in
     let size = ap length set_is ∙ length-set counts process (get_or counts process 0 + 1) in
     let old = c.loop-told.invariant in
-    let from = found_in g.O.Object.meaning c.args.found in
+    let from = found_in g.O.Object.meaning c.args.there.now in
     let here = found_in g.O.Object.meaning there in
     let frame : Frame = record { place = c.args.place; next = rows.events; id = record { process = process; number = c.in_ok-number.number }; limit = c.loop-told.limit } in
     let id : call_at process (get_or counts process 0) ≡ frame.id = ap (λ (n : ℕ). record { process = process; number = n }) (sym c.in_ok-number.ensures.number) in
@@ -60,10 +57,10 @@ loop-told-preserved g c =
       told = c.in_ok-process.ensures.told;
       worded = old.worded;
       sized = size ∙ old.sized;
-      passed = λ history are.
-          let p = old.passed history are in
+      passed = λ history are bound.
+          let p = old.passed history are bound in
           let own = subst (λ (n : ℕ). AreRows history n rows) (sym old.sized) are in
-          let reads = some_at (IsReadingNext effect history here) c.in_ok-process.field-0 process c.in-Some.is (c.in_ok-process.ensures.reads history (own, old.limit history are)) in
+          let reads = some_at (IsReadingNext effect history here) c.in_ok-process.field-0 process c.in-Some.is (c.in_ok-process.ensures.reads history (own, old.limit history are bound)) in
           let more = passes_push effect history p.passes reads.0 reads.1 in
           let named = subst (λ (i : CallId). Passes effect history from (ids_of p.frames ++ i ∷ []) (one_more counts process here.state)) id more in
           let size_is = are.events in
@@ -78,9 +75,11 @@ loop-told-preserved g c =
                 subst (λ (l : List CallId). Passes effect history from l (record { counts = c.take_next.new.counts.items; state = here.state })) (sym (map-append (λ x. x.id) p.frames (frame ∷ [])))
                 (subst (λ (d : Configuration g.O.Object.Meaning). Passes effect history from (ids_of p.frames ++ frame.id ∷ []) d) to named);
           };
-      limit = λ history are.
-          let own = subst (λ (n : ℕ). AreRows history n rows) (sym (ap length c.deref-in-Some.ensures ∙ size ∙ old.sized)) are in
-          subst (λ (xs : List ℕ). IsLimit history xs c.limit_of-next.result) c.deref-in-Some.ensures (c.limit_of-next.ensures history own);
+      limit = λ history are bound.
+          let own = subst (λ (n : ℕ). AreRows history n rows) (sym (ap length c.deref.ensures ∙ size ∙ old.sized)) are in
+          let next = some_at (HasNext rows counts) c.in_ok-process.field-0 process c.in-Some.is c.in_ok-process.ensures.next in
+          subst (λ (xs : List ℕ). IsLimit history xs c.next_limit-next.result) c.deref.ensures
+          (c.next_limit-next.ensures history counts own (record { within = next.0; number = c.in_ok-number.ensures.number; is = c.deref.ensures ∙ set_is ∙ ap (set counts process) (sym c.in_ok-number.ensures.number) }) (old.limit history are bound));
     }
 
 pub returns-clause-passed : goal.returns-clause-passed

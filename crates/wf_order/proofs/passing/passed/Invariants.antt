@@ -12,10 +12,10 @@ abbrev pub invariant-loop-told : goal.invariant-loop-told
 invariant-loop-told g l = record {
   told : IfSome l.told (IsTold (g.O.Object.effect l.task.object.now) (g.O.Object.meaning l.there.state));
   worded : IsWorded g.O.Object.meaning g.O.Object.words_of l.there;
-  sized : length l.there.counts.items ≡ length l.fn.found.counts.items;
-  passed : (history : List (Event ObjectCall Reply)) → AreRows history (length l.fn.found.counts.items) l.task.rows.now →
-      IsPassed (g.O.Object.effect l.task.object.now) history l.place (found_in g.O.Object.meaning l.fn.found) (found_in g.O.Object.meaning l.there) l.fn.stack.items l.stack.items;
-  limit : (history : List (Event ObjectCall Reply)) → AreRows history (length l.fn.found.counts.items) l.task.rows.now → IsLimit history l.there.counts.items l.limit;
+  sized : length l.there.counts.items ≡ length l.fn.there.counts.items;
+  passed : (history : List (Event ObjectCall Reply)) → AreRows history (length l.fn.there.counts.items) l.task.rows.now → IsLimit history l.fn.there.counts.items l.fn.limit →
+      IsPassed (g.O.Object.effect l.task.object.now) history l.place (found_in g.O.Object.meaning l.fn.there) (found_in g.O.Object.meaning l.there) l.fn.stack.items l.stack.items;
+  limit : (history : List (Event ObjectCall Reply)) → AreRows history (length l.fn.there.counts.items) l.task.rows.now → IsLimit history l.fn.there.counts.items l.fn.limit → IsLimit history l.there.counts.items l.limit;
 }
 
 abbrev pub decreases-loop-told : goal.decreases-loop-told

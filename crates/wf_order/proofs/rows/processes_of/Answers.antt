@@ -1,5 +1,5 @@
 -- The number is large enough for the events so far, and no larger.
-use Rattle.std.proofs.Common.{◌≡◌, ℕ, ◌<◌, ◌≤◌, sym, subst, arith, ap, ◌∙◌, map, length, inl, inr}
+use Rattle.std.proofs.Common.{◌≡◌, ◌<◌, sym, subst, arith, ap, ◌∙◌, map, length, inl, inr}
 use Rattle.std.proofs.lemmas.Bool.{cases_lt}
 use Rattle.std.proofs.lemmas.Option.{slice_get_within}
 use Rattle.std.proofs.lemmas.List.{length-map}

@@ -61,6 +61,7 @@ loop-frame-init g c =
       c.in_ok-order.ensures.worded,
       subst (λ (n : ℕ). n + work c.args.processes rows (all_found g.O.Object.meaning c.arrive.new.seen) c.arrive.new.stack.items ≤ try_cost c.args.processes (length c.args.task.now.events.now + 1)) (length-map c.arrive.new.seen.keys view)
           (subst (λ (n : ℕ). length (all_found g.O.Object.meaning c.arrive.new.seen) + work c.args.processes rows (all_found g.O.Object.meaning c.arrive.new.seen) c.arrive.new.stack.items ≤ try_cost c.args.processes (n + 1)) (length-map c.args.task.now.events.now event_of) s.1),
+      tt,
     )
 
 pub returns-then-len-most-clause-answer : goal.returns-then-len-most-clause-answer
@@ -94,6 +95,9 @@ advance-requires-clause-place g c =
     let within = top_within effect history c.args.processes (IsLed effect history true start) (led_on effect history true start) start found c.pop.new.self.items c.in-Some-pop.frame h in
     let size = length-map c.loop-frame.seen.keys view in
     omega (arith, within, size)
+
+pub advance-requires-clause-heard : goal.advance-requires-clause-heard
+advance-requires-clause-heard g c = c.loop-frame.invariant.3
 
 pub returns-in-Some-2-clause-answer : goal.returns-in-Some-2-clause-answer
 returns-in-Some-2-clause-answer g c =
@@ -131,7 +135,7 @@ loop-frame-preserved g c =
     let less = subst (λ (l : List Frame). work c.args.processes rows more c.advance.new.stack.items < work c.args.processes rows found l) (sym c.in-Some-pop.ensures.items) both.1 in
     let one = c.in_ok-order-2.ensures.one_more in
     let bound = c.loop-frame.invariant.2 in
-    (both.0, c.in_ok-order-2.ensures.worded, omega (arith, less, one, bound))
+    (both.0, c.in_ok-order-2.ensures.worded, omega (arith, less, one, bound), c.in_ok-order-2.ensures.heard)
 
 pub returns-clause-answer : goal.returns-clause-answer
 returns-clause-answer g c =

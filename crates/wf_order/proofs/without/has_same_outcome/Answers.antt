@@ -2,7 +2,7 @@
 use Rattle.std.proofs.Common.{subst, Option, option_map}
 use Rattle.std.proofs.lemmas.Result.{IfOk-weaker}
 use Rattle.wf_history.specs.View.{seen_call, seen_reply}
-use Rattle.wf_order.specs.Search.{IsOutcome}
+use Rattle.wf_order.specs.Rules.{IsOutcome}
 use Rattle.wf_order.proofs.LeftOut.{same_none, same_some}
 use Rattle.wf_order.proofs.without.has_same_outcome.Goals as goal
 

@@ -1,5 +1,4 @@
-use Rattle.std.proofs.Common.{refl, sym, ap, ◌∙◌, List}
-use Rattle.std.specs.Prelude.{ℤ}
+use Rattle.std.proofs.Common.{refl, sym, ap, ◌∙◌}
 use Rattle.ob_code_machine.specs.Body.{Run}
 use Rattle.wf_table.specs.Meaning.{Turned, body}
 use Rattle.ob_code_calls.specs.Calls.{asked, meaning_of, paid}

@@ -50,14 +50,6 @@ fn values_of(alloc: Global, scalars: &[Scalar]) -> Result<Vec<Value>, AllocError
     Ok(values)
 }
 
-/// Equal values.
-fn copied(alloc: Global, values: &[Value]) -> Result<Vec<Value>, AllocError>
-    ensures { IfOk result (λ copies. variables_in copies.items ≡ variables_in values.now) }
-{
-    let copies = copy_all(alloc, values)?;
-    Ok(copies)
-}
-
 /// Values that are given up, as they are kept.
 pub(crate) fn kept(alloc: Global, values: Vec<Value>) -> Result<KeptState, NoMemory>
     ensures { IfOk result (λ state. kept_in state ≡ variables_in values.items) }
@@ -75,7 +67,7 @@ impl KeptState {
     {
         match self {
             KeptState::Scalars(scalars) => Ok(State::new(values_of(alloc, scalars.as_slice())?)),
-            KeptState::Values(values) => Ok(State::new(copied(alloc, values.as_slice())?)),
+            KeptState::Values(values) => Ok(State::new(copy_all(alloc, values.as_slice())?)),
         }
     }
 

@@ -2,7 +2,7 @@ use Rattle.std.proofs.Common.{drop}
 use Rattle.std.specs.List.{All}
 use Rattle.ob_code_scheme.specs.Correct.{IsInRange}
 use Rattle.ob_interface.specs.Export.{ArgumentsFit}
-use Rattle.ob_code_calls.proofs.fitting.do_fit.Given as goal
+use Rattle.ob_code_calls.proofs.fitting_arguments.do_fit.Given as goal
 
 -- where the others fit the parameters that are left, all fit all
 abbrev pub invariant-loop-parameter : goal.invariant-loop-parameter

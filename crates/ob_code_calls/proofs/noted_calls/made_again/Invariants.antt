@@ -2,7 +2,7 @@
 use Rattle.std.proofs.Common.{◌≡◌, drop, map}
 use Rattle.ob_code_calls.specs.Calls.{left_by_all}
 use Rattle.ob_code_calls.specs.Parts.{parts_in, IsRoomFor}
-use Rattle.ob_code_calls.proofs.noted.made_again.Given as goal
+use Rattle.ob_code_calls.proofs.noted_calls.made_again.Given as goal
 use Rattle.ob_interface.specs.View.{call_of}
 
 abbrev pub invariant-loop-call : goal.invariant-loop-call

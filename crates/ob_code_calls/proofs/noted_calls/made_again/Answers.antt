@@ -5,7 +5,7 @@ use Rattle.std.proofs.lemmas.List.Elements.{All-get_or}
 use Rattle.ob_code_correct.specs.Compiled.{IsFitting}
 use Rattle.ob_code_calls.specs.Parts.{parts_in}
 use Rattle.ob_code_calls.proofs.Again.{left_last, left_next}
-use Rattle.ob_code_calls.proofs.noted.made_again.Goals as goal
+use Rattle.ob_code_calls.proofs.noted_calls.made_again.Goals as goal
 use Rattle.ob_interface.specs.Call.{ObjectCall}
 use Rattle.ob_interface.specs.View.{call_of}
 

@@ -9,22 +9,23 @@ use Rattle.wf_order.specs.Rules.{AreAlike}
 use Rattle.wf_order.specs.Search.{found_in, HasNoStep, IsNextStep}
 use Rattle.wf_order.specs.Steps.{one_more}
 use Rattle.wf_order.proofs.Replacing.{alike_behind}
-use Rattle.wf_order.proofs.behind.is_behind_next.Goals as goal
+use Rattle.wf_order.proofs.behind.is_behind_any.Goals as goal
 
 taken_is : (xs ys : List ℕ) (p x : ℕ) → true ≡ nat_lt p (length xs) → x ≡ get_or xs p x → xs ≡ ys → x ≡ get_or ys p 0
 taken_is xs ys p x t h e = get_or_read xs p x (ltb-true p (length xs) (sym t)) h 0 ∙ ap (λ (l : List ℕ). get_or l p 0) e
 
-pub returns : goal.returns
-returns g c = λ history at.
+pub returns-in-Some-2 : goal.returns-in-Some-2
+returns-in-Some-2 g c = λ history at.
     let process = c.args.process in
-    let other = c.args.other in
     let found = c.args.here.now.found.now in
     let here = found_in g.O.Object.meaning found in
     let effect = g.O.Object.effect c.args.task.now.object.now in
-    let own = taken_is c.deref.result.now found.counts.items process c.in-Some.place.now c.in-Some.ensures.lookup.0 c.in-Some.ensures.lookup.1 c.deref.ensures in
-    let others = taken_is c.deref-2.result.now found.counts.items other c.in-Some-get.other_place.now c.in-Some-get.ensures.lookup.0 c.in-Some-get.ensures.lookup.1 c.deref-2.ensures in
-    let alike = subst (λ (k : ℕ). AreAlike history (call_at other k) (call_at process (get_or here.counts process 0))) others
-    (subst (λ (k : ℕ). AreAlike history (call_at other c.in-Some-get.other_place.now) (call_at process k)) own (c.are_alike.ensures history (length here.counts) at.0 c.if-not-are_alike.false)) in
+    let other = c.in-Some-next_of.next.process in
+    let own = taken_is c.as_slice-counts.result.now found.counts.items process c.in-Some.place.now c.in-Some.ensures.lookup.0 c.in-Some.ensures.lookup.1 c.as_slice-counts.ensures in
+    let found_alike = c.are_alike.ensures history (length here.counts) at.0 c.if-not-are_alike.false in
+    let first = subst (λ (xs : List ℕ). AreAlike history (call_at c.loop-process.process (get_or xs c.loop-process.process 0)) (call_at process c.in-Some.place.now)) c.as_slice-counts.ensures found_alike in
+    let named = subst (λ (p : ℕ). AreAlike history (call_at p (get_or here.counts p 0)) (call_at process c.in-Some.place.now)) (sym c.in-Some-next_of.ensures.0) first in
+    let alike = subst (λ (k : ℕ). AreAlike history (call_at other (get_or here.counts other 0)) (call_at process k)) own named in
     let after = g.O.Object.meaning c.in-Some-2._state in
     let only = MatchOption-at_some (HasNoStep effect history here other) (λ s. IsNextStep effect history here other (g.O.Object.meaning s)) c.in-Some-2._state c.in-Some-2.is (c.in_ok-_state.ensures history at) in
     λ t. alike_behind effect history at.0.whole here process other alike (call_at other (get_or here.counts other 0)) (one_more here.counts other after) only

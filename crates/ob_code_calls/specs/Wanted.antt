@@ -1,0 +1,26 @@
+-- Calls of which a reply is wanted.
+use Rattle.std.specs.Prelude.{◌≡◌, List, map}
+use Rattle.ob_interface.specs.Call.{ObjectCall, Reply, Answers, Trapped}
+use Rattle.ob_interface.specs.declared.scalar.Scalar.{Scalar}
+use Rattle.ob_code_calls.specs.Scalars.{held_of}
+use Rattle.ob_code_calls.specs.declared.scalar_calls.Led.{Led}
+use Rattle.ob_code_calls.specs.declared.scalar_calls.Led.TheVariants as Leds
+use Rattle.ob_code_calls.specs.declared.scalar_calls.Wanted.{Wanted}
+use Rattle.ob_code_calls.specs.declared.scalar_calls.Wanted.TheVariants as Wanteds
+use Rattle.ob_code_correct.specs.CodeMeaning.{EngineParts}
+use Rattle.ob_meaning.specs.ByPositionObject.{effect}
+use Rattle.ob_typing.specs.Program.{Program}
+
+-- the reply is the one that is wanted
+abbrev pub IsWanted : Wanted → Reply → Type 0
+IsWanted Wanteds.Any reply = Unit {0}
+IsWanted (Wanteds.Values values) reply = reply ≡ Answers values.now
+IsWanted (Wanteds.Trap number) reply = reply ≡ Trapped number
+
+-- What the call comes to on variables that hold these scalars has the reply that is wanted, and leads to variables that hold those; or it
+-- has another one.
+abbrev pub IsLed : Program → EngineParts → ObjectCall → (before : List Scalar) → Wanted → Led → Type 0
+IsLed program parts call before wanted (Leds.To after) =
+    ((effect program call parts.budget (map held_of before)).state ≡ map held_of after.items) × IsWanted wanted (effect program call parts.budget (map held_of before)).reply
+IsLed program parts call before wanted Leds.Elsewhere = ¬ IsWanted wanted (effect program call parts.budget (map held_of before)).reply
+IsLed program parts call before wanted Leds.Nowhere = Unit {0}
