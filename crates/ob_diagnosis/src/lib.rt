@@ -11,5 +11,5 @@ pub mod module_remark;
 mod procedure_names;
 mod rules;
 mod syntax;
-mod table_rows;
+mod told_by_tables;
 mod unexpected;

@@ -10,7 +10,7 @@ use crate::rules::{
     twice_remark, types_remark, unknown_remark,
 };
 use crate::syntax::{name_remark, unexpected_remark};
-use crate::table_rows::plain_remark;
+use crate::told_by_tables::plain_remark;
 use ob_evidence::text_site::{Site, look_around};
 use ob_messages::remark::Remark;
 use ob_messages::table_rows::Number;
@@ -91,18 +91,16 @@ fn number_of(rule: Rule) -> Number
 }
 
 /// The remark on a fault of this number at a place.
-fn remark_on(alloc: Global, text: &[u8], number: Number, place: usize) -> Result<Remark, AllocError>
+pub fn remark_on(
+    alloc: Global,
+    text: &[u8],
+    number: Number,
+    place: usize,
+) -> Result<Remark, AllocError>
     ensures { IfOk result (λ remark. IsRemark text.now number place (remark_of remark)) }
 {
     let found = look_around(alloc, text, place)?;
-    let site = Site {
-        text,
-        place,
-        tokens: &found.tokens,
-        before: &found.before,
-        behind: &found.behind,
-        known: &found.known,
-    };
+    let site = found.site(text, place);
     remark_at(alloc, &site, number)
 }
 

@@ -1,10 +1,6 @@
 //! Names of procedures and of what is declared, by the tokens of a text alone.
 
-ghost use Rattle.std.specs.Prelude.{◌≡◌, find};
-ghost use Rattle.ob_evidence.specs.Keywords.{first_of_statement, leads_there, next_behind};
-ghost use Rattle.ob_evidence.specs.Sites.{scene_of};
-
-use ob_evidence::names::leads_to_statement;
+use ob_evidence::small_keywords::{first_of_statement, next_behind};
 use ob_evidence::text_site::{Site, is_kind};
 use ob_explain_tokens::actuals::ends_call;
 use ob_explain_tokens::open::{is_in_record, open_construct};
@@ -75,26 +71,6 @@ pub(crate) fn called(site: &Site<'_, '_>, could: &[Kind]) -> Option<Token> {
     if ends { first_of_statement(site) } else { None }
 }
 
-/// The first token of the statement in which the place stands.
-pub(crate) fn first_of_statement(site: &Site<'_, '_>) -> Option<Token>
-    ensures { result ≡ first_of_statement (scene_of site.now) }
-{
-    match leader(site.before) {
-        Some(leader) => next_behind(site.tokens, leader.start),
-        None => None,
-    }
-}
-
-/// The first of these tokens behind which a statement may begin.
-fn leader(tokens: &[Token]) -> Option<Token>
-    ensures { result ≡ find leads_there tokens.now }
-{
-    tokens
-        .iter()
-        .copied()
-        .find(|token| leads_to_statement(token.kind))
-}
-
 /// Whether the statement in which the place stands begins with the name of a procedure and a `[`.
 pub(crate) fn begins_with_bracket(site: &Site<'_, '_>) -> bool {
     match first_of_statement(site) {
@@ -104,13 +80,6 @@ pub(crate) fn begins_with_bracket(site: &Site<'_, '_>) -> bool {
         }
         None => false,
     }
-}
-
-/// The first token behind a place.
-pub(crate) fn next_behind(tokens: &[Token], place: usize) -> Option<Token>
-    ensures { result ≡ next_behind tokens.now place }
-{
-    tokens.iter().copied().find(|token| place < token.start)
 }
 
 /// Whether the token there is to end a REPEAT, where tokens of these kinds could stand: a WHILE without a DO in place of UNTIL, or the

@@ -8,12 +8,12 @@ ghost use Rattle.ob_messages.specs.Remarks.{remark_of};
 use crate::foreign::is_number_type;
 use crate::further::{declares_other, is_elsewhere, is_own_name, is_own_type};
 use crate::procedure_names::{is_field, is_procedure};
-use crate::table_rows::{Seen, nothing, of_facts, told};
+use crate::told_by_tables::{Seen, nothing, of_facts, told};
 use ob_evidence::constant_numbers::{
     first_operand, is_known, length_there, second_operand, written,
 };
 use ob_evidence::facts::facts_of;
-use ob_evidence::names::{
+use ob_evidence::nearest_names::{
     declared, declared_line, is_near, is_there, near_name, parameters, sort_facts, sort_there,
 };
 use ob_evidence::needed_types::{note_whole, types_there};

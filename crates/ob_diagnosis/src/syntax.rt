@@ -6,11 +6,11 @@ ghost use Rattle.ob_explain_names.specs.Expected.{AreExpected};
 ghost use Rattle.ob_evidence.specs.Sites.{scene_of};
 ghost use Rattle.ob_messages.specs.Remarks.{remark_of};
 
-use crate::table_rows::{Seen, nothing, of_facts, told};
+use crate::told_by_tables::{Seen, nothing, of_facts, told};
 use crate::unexpected::seen_there;
 use ob_evidence::constructs::{inner_of, open_around, opening_of};
 use ob_evidence::facts::facts_of;
-use ob_evidence::names::end_name;
+use ob_evidence::nearest_names::end_name;
 use ob_evidence::text_site::{Site, is_kind, is_token, kind_or_name, line_of};
 use ob_explain_names::expected::expected_kinds;
 use ob_messages::remark::Remark;

@@ -6,7 +6,8 @@
 pub mod constant_numbers;
 pub mod constructs;
 pub mod facts;
-pub mod names;
+pub mod nearest_names;
 pub mod needed_types;
+pub mod small_keywords;
 pub mod text_site;
 pub mod word_totals;

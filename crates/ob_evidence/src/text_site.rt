@@ -51,6 +51,22 @@ pub fn look_around(alloc: Global, text: &[u8], place: usize) -> Result<Around, A
     })
 }
 
+impl Around {
+    /// The place of the text around which this was found.
+    pub fn site<'t, 'a>(&'a self, text: &'t [u8], place: usize) -> Site<'t, 'a>
+        ensures { scene_of result ≡ scene_in text.now place self.now }
+    {
+        Site {
+            text,
+            place,
+            tokens: &self.tokens,
+            before: &self.before,
+            behind: &self.behind,
+            known: &self.known,
+        }
+    }
+}
+
 impl<'t, 'a> Site<'t, 'a> {
     /// The token at the place.
     pub fn here(&self) -> Option<Token>

@@ -5,9 +5,8 @@ use Rattle.ob_check.specs.declared.module_text.TextFault.{TextFault}
 use Rattle.ob_messages.specs.Explanations.{explanation}
 use Rattle.ob_messages.specs.Remarks.{Remark}
 use Rattle.ob_slips.specs.Mendings.{mended, mending_text, origin_in}
-use Rattle.ob_slips.specs.WordMendings.{IsMending}
 use Rattle.ob_slips.specs.Remarks.{IsTextRemark}
-use Rattle.ob_slips.specs.Slips.{is_further}
+use Rattle.ob_slips.specs.Slips.{IsMending, is_further}
 use Rattle.ob_slips.specs.declared.mending.Mending.{Mending}
 use Rattle.ob_slips.specs.declared.stage.Stage as Rust
 use Rattle.ob_typing.specs.ModuleText.{IsModule}

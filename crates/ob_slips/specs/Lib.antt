@@ -1,5 +1,5 @@
 pub mod Behind
 pub mod Mendings
-pub mod WordMendings
 pub mod Remarks
+pub mod Signs
 pub mod Slips

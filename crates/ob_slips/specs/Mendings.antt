@@ -1,5 +1,5 @@
 -- Mendings of a text: at a place a few bytes are taken out, and what is meant is put there.
-use Rattle.std.specs.Prelude.{ℕ, ◌-◌, ◌==◌, nat_lt, List, [], ◌++◌, codes, drop, length, map, take, if◌then◌else◌}
+use Rattle.std.specs.Prelude.{ℕ, ◌-◌, ◌==◌, nat_lt, List, [], ◌++◌, codes, drop, length, map, replicate, take, if◌then◌else◌}
 use Rattle.std.specs.Char.{to_ascii_uppercase}
 use Rattle.std.specs.List.{fold}
 use Rattle.ob_explain_words.specs.Distance.{bytes_of}
@@ -9,34 +9,13 @@ use Rattle.ob_slips.specs.declared.mending.Meant.{Meant}
 use Rattle.ob_slips.specs.declared.mending.Meant.TheVariants as Means
 use Rattle.ob_slips.specs.declared.mending.Mending.{Mending}
 
--- how many bytes are taken out: those of what was written by mistake; a word has its own length
-abbrev pub taken : Meant → ℕ
-taken Means.Semicolon = 0
-taken Means.Assign = 1
-taken Means.AssignForTwo = 2
-taken Means.OneEqual = 1
-taken Means.OneAnd = 1
-taken Means.Div = 1
-taken Means.Mod = 1
-taken Means.Or = 2
-taken Means.Not = 1
-taken Means.NotEqual = 2
-taken Means.Unequal = 2
-taken Means.AtLeast = 2
-taken Means.AtMost = 2
-taken Means.Arrow = 2
-taken Means.Letter = 1
-taken Means.Capitals = 0
-taken (Means.Name named) = 0
-
 -- What is put there. It has no line feed, so that each line stays where it is, and no fewer bytes than are taken out; an operator of
 -- letters stands between blanks. A keyword and a name come of the text.
 abbrev pub put : Meant → List ℕ
 put Means.Semicolon = codes ";"
 put Means.Assign = codes ":="
-put Means.AssignForTwo = codes ":="
-put Means.OneEqual = codes " "
-put Means.OneAnd = codes " "
+put Means.OneEqual = codes "= "
+put Means.OneAnd = codes "& "
 put Means.Div = codes " DIV "
 put Means.Mod = codes " MOD "
 put Means.Or = codes " OR "
@@ -54,7 +33,6 @@ put (Means.Name named) = []
 abbrev pub phrase : Meant → List ℕ
 phrase Means.Semicolon = codes "with a ; before it"
 phrase Means.Assign = codes "with := in its place"
-phrase Means.AssignForTwo = codes "with := in its place"
 phrase Means.OneEqual = codes "with one ="
 phrase Means.OneAnd = codes "with one &"
 phrase Means.Div = codes "with DIV in its place"
@@ -86,15 +64,13 @@ spliced text m bytes = take m.place text ++ bytes ++ drop m.taken (drop m.place 
 abbrev pub capitalised : List ℕ → Mending → List ℕ
 capitalised text m = spliced text m (map to_ascii_uppercase (take m.taken (drop m.place text)))
 
--- with a name in place of the word there, and blanks for the letters that the word has more
-abbrev pub blank_for : ℕ → ℕ
-blank_for b = 32
+-- a name, and blanks behind it up to so many bytes
+abbrev pub filled_up : (name : List ℕ) → (bytes : ℕ) → List ℕ
+filled_up name bytes = name ++ replicate (bytes - length name) 32
 
-abbrev pub blanks_behind : (name word : List ℕ) → List ℕ
-blanks_behind name word = map blank_for (drop (length name) word)
-
+-- with a name in place of the word there, which has blanks for what the word is longer
 abbrev pub renamed : List ℕ → Mending → Named → List ℕ
-renamed text m named = spliced text m (bytes_of text named ++ blanks_behind (bytes_of text named) (take m.taken (drop m.place text)))
+renamed text m named = spliced text m (filled_up (bytes_of text named) m.put)
 
 -- a letter for `_`, and each other byte as it is
 abbrev pub letter_for : ℕ → ℕ

@@ -1,133 +1,151 @@
--- Which slips are known.
-use Rattle.std.specs.Prelude.{ℕ, ◌-◌, ◌==◌, ◌&&◌, ◌||◌, bytes_eq, nat_eq, nat_lt, not, Bool, true}
-use Rattle.std.specs.Prelude.{false, List, Option, Some, None, codes, drop, length, option_map, reverse, take, if◌then◌else◌}
-use Rattle.std.specs.Char.{is_ascii_alphanumeric, is_ascii_uppercase}
-use Rattle.std.specs.List.{ends_with, list_all, list_any, starts_with, take_while}
+-- Which slips are known: the mending of a fault is that of a sign, else of a word, else of a line.
+use Rattle.std.specs.Prelude.{◌≡◌, ◌==◌, ◌&&◌, ℕ, nat_lt, max, not, Bool, IsTrue, true, false, List, drop, length, take, Option, None, Some, option_map, if◌then◌else◌}
+use Rattle.std.specs.Char.{is_ascii_uppercase}
+use Rattle.std.specs.List.{list_all, list_any}
 use Rattle.ob_check.specs.declared.module_text.TextFault.{TextFault}
 use Rattle.ob_check.specs.declared.module_text.TextFault.TheVariants as Text
+use Rattle.ob_diagnosis.specs.Remarks.{IsRemark}
+use Rattle.ob_evidence.specs.Keywords.{IsSmallKeyword, first_of_statement}
+use Rattle.ob_evidence.specs.Names.{end_name, is_near, near_name}
+use Rattle.ob_evidence.specs.Sites.{IsScene, Scene, here, last, word, word_of}
+use Rattle.ob_explain_words.specs.Distance.{bytes_of}
+use Rattle.ob_explain_words.specs.declared.distance.Named.{Named}
+use Rattle.ob_explain_words.specs.declared.distance.Named.TheVariants as Names
 use Rattle.ob_messages.specs.Places.{is_line_feed, shown_place}
-use Rattle.ob_messages.specs.Words.{is_same_in_any_case, word_at}
+use Rattle.ob_messages.specs.Remarks.{Remark}
+use Rattle.ob_messages.specs.declared.table_rows.Number.{Number}
+use Rattle.ob_messages.specs.declared.table_rows.Number.TheVariants as Numbers
 use Rattle.ob_parser.specs.declared.parser.ParseFault.TheVariants as Parse
 use Rattle.ob_scan.specs.declared.fault.ScanFault.TheVariants as Scan
-use Rattle.ob_slips.specs.Mendings.{origin, put, taken}
-use Rattle.ob_slips.specs.declared.mending.Meant.{Meant}
+use Rattle.ob_scan.specs.declared.token.Kind.{Kind}
+use Rattle.ob_scan.specs.declared.token.Kind.TheVariants as Kinds
+use Rattle.ob_scan.specs.declared.token.Token.{Token}
+use Rattle.ob_scopes.specs.declared.fault.CheckFault.TheVariants as Check
+use Rattle.ob_slips.specs.Mendings.{origin, put}
+use Rattle.ob_slips.specs.Signs.{IsSignMending}
 use Rattle.ob_slips.specs.declared.mending.Meant.TheVariants as Means
 use Rattle.ob_slips.specs.declared.mending.Mending.{Mending}
+use Rattle.ob_typing.specs.declared.rule.Rule.{Rule}
+use Rattle.ob_typing.specs.declared.rule.Rule.TheVariants as Rules
 
-abbrev pub begins : (sign from : List ℕ) → Bool
-begins sign from = starts_with nat_eq from sign
+-- ---- one mending or another
 
-abbrev pub ends : (sign before : List ℕ) → Bool
-ends sign before = ends_with nat_eq before sign
+-- this mending where something holds, and else none
+pub data IsWhere (Holds : Type 0) (m : Mending) : Option Mending → Type 0 where
+  holds : Holds → IsWhere Holds m (Some m)
+  fails : (Holds → ⊥) → IsWhere Holds m None
 
--- what is meant where a byte begins no token; `//` and `/*` begin comments of other languages
-abbrev pub meant_for_byte : (from : List ℕ) → Option Meant
-meant_for_byte from =
-    if begins (codes "!=") from then Some Means.NotEqual
-    else if begins (codes "!") from then Some Means.Not
-    else if begins (codes "||") from then Some Means.Or
-    else if begins (codes "%") from then Some Means.Mod
-    else if begins (codes "_") from then Some Means.Letter
-    else if begins (codes "//") from || begins (codes "/*") from then None
-    else if begins (codes "/") from then Some Means.Div
-    else None
+-- that of the first sort, and where it has none that of the other one
+pub data IsElse (IsFirst IsOther : Option Mending → Type 0) : Option Mending → Type 0 where
+  first : (m : Mending) → IsFirst (Some m) → IsElse IsFirst IsOther (Some m)
+  other : {m : Option Mending} → IsFirst None → IsOther m → IsElse IsFirst IsOther m
 
--- a line feed stands among the blanks at the end
-abbrev pub behind_line_feed : List ℕ → Bool
-behind_line_feed bytes = list_any is_line_feed (drop (shown_place bytes (length bytes)) bytes)
+-- ---- words
 
-abbrev pub is_none : List ℕ → Bool
-is_none bytes = length bytes == 0
+abbrev pub in_capitals : Scene → (name : Token) → Mending
+in_capitals s name = record {
+  place = name.start;
+  meant = Means.Capitals;
+  taken = length (word_of s.text (Some name));
+  put = length (word_of s.text (Some name));
+}
 
--- what is meant where a token can't stand that is one symbol with the byte before it
-abbrev pub meant_for_pair : (before from : List ℕ) → Option Meant
-meant_for_pair before from =
-    if ends (codes "<") before && begins (codes ">") from then Some Means.Unequal
-    else if begins (codes ">=") from || begins (codes "<=") from then None
-    else if ends (codes "=") before && begins (codes ">") from then Some Means.AtLeast
-    else if ends (codes "=") before && begins (codes "<") from then Some Means.AtMost
-    else None
+abbrev pub IsKeywordMending : Scene → Option Token → Option Mending → Type 0
+IsKeywordMending s None m = m ≡ None
+IsKeywordMending s (Some name) m = IsWhere ((keyword : Kind) × IsSmallKeyword s name keyword) (in_capitals s name) m
+
+-- a name in place of the word there
+abbrev pub renaming : Scene → Named → Mending
+renaming s named = record {
+  place = s.place;
+  meant = Means.Name named;
+  taken = length (word s);
+  put = max (length (bytes_of s.text named)) (length (word s));
+}
+
+-- the name that is meant at a place where none of the one there is visible: the nearest one, where one is near
+abbrev pub near_named : Scene → Option Named
+near_named s = if is_near (near_name s) then Some (near_name s).named else None
+
+-- the name that is meant behind an END: that of what the END closes
+abbrev pub end_named : Scene → Option Named
+end_named s = option_map (λ t. Names.At t.start) (end_name s)
+
+-- beside a hint no name is told
+abbrev pub unless_hint : (hint : Option (List ℕ)) → Option Mending → Option Mending
+unless_hint None m = m
+unless_hint (Some hint) m = None
+
+-- Of a fault of this number: the name that is meant stands in place of the one there, where the remark on the fault has no hint.
+pub record IsNameMending (number : Number) (named : Scene → Option Named) (text : List ℕ) (place : ℕ) (m : Option Mending) : Type 0 where
+  pub scene : Scene
+  pub is_scene : IsScene text place scene
+  pub remark : Remark
+  pub remarked : IsRemark text number place remark
+  pub says : m ≡ unless_hint remark.hint (option_map (renaming scene) (named scene))
+
+-- ---- lines
 
 -- a keyword before which a `;` may be missing
-abbrev pub begins_part : (word : List ℕ) → Bool
-begins_part word =
-    bytes_eq word (codes "IF") || bytes_eq word (codes "WHILE") || bytes_eq word (codes "REPEAT") || bytes_eq word (codes "CONST")
-    || bytes_eq word (codes "TYPE") || bytes_eq word (codes "VAR") || bytes_eq word (codes "PROCEDURE") || bytes_eq word (codes "BEGIN")
-    || bytes_eq word (codes "END")
+abbrev pub begins_part : Kind → Bool
+begins_part Kinds.If = true
+begins_part Kinds.While = true
+begins_part Kinds.Repeat = true
+begins_part Kinds.Const = true
+begins_part Kinds.«Type» = true
+begins_part Kinds.Var = true
+begins_part Kinds.Procedure = true
+begins_part Kinds.Begin = true
+begins_part Kinds.End = true
+begins_part _ = false
 
--- a keyword that begins a line, in any letters
-abbrev pub is_small_keyword : (word : List ℕ) → Bool
-is_small_keyword word =
-    is_same_in_any_case word (codes "IF") || is_same_in_any_case word (codes "WHILE") || is_same_in_any_case word (codes "REPEAT")
-    || is_same_in_any_case word (codes "CONST") || is_same_in_any_case word (codes "TYPE") || is_same_in_any_case word (codes "VAR")
-    || is_same_in_any_case word (codes "PROCEDURE") || is_same_in_any_case word (codes "BEGIN") || is_same_in_any_case word (codes "END")
-    || is_same_in_any_case word (codes "ELSE") || is_same_in_any_case word (codes "ELSIF") || is_same_in_any_case word (codes "UNTIL")
+-- a word may be meant to be another keyword, or is one: it has several letters, all of them capital, as `EDN` and `ELSE`
+abbrev pub is_misspelt : (word : List ℕ) → Kind → Bool
+is_misspelt word kind = nat_lt 1 (length word) && list_all is_ascii_uppercase word && not (begins_part kind)
 
-abbrev pub is_in_capitals : (word : List ℕ) → Bool
-is_in_capitals word = nat_lt 1 (length word) && list_all is_ascii_uppercase word
+-- a line feed stands among the blanks at the end
+abbrev pub ends_line : List ℕ → Bool
+ends_line bytes = list_any is_line_feed (drop (shown_place bytes (length bytes)) bytes)
 
--- a word that may be meant to be a keyword: one but for small letters, as `end`, or all of capital letters, as `EDN`
-abbrev pub is_misspelt : (word : List ℕ) → Bool
-is_misspelt word = not (begins_part word) && (is_small_keyword word || is_in_capitals word)
+-- a `;` is missing before a token: a line ends there, and the token is no misspelt keyword
+abbrev pub lacks_semicolon : Scene → (token : Token) → Bool
+lacks_semicolon s t = ends_line (take s.place s.text) && not (is_misspelt (word_of s.text (Some t)) t.kind)
 
--- what is meant where a sign can't stand
-abbrev pub meant_for_sign : (before from : List ℕ) → Option Meant
-meant_for_sign before from =
-    if ends (codes "=") before && begins (codes "=") from then Some Means.OneEqual
-    else if ends (codes "&") before && begins (codes "&") from then Some Means.OneAnd
-    else if begins (codes "=:") from || begins (codes "==") from then Some Means.AssignForTwo
-    else if begins (codes "=") from then Some Means.Assign
-    else if begins (codes "<-") from then Some Means.Arrow
-    else None
+abbrev pub semicolon_at : (place : ℕ) → Mending
+semicolon_at place = record { place = place; meant = Means.Semicolon; taken = 0; put = length (put Means.Semicolon) }
 
--- A `;` is missing at the end of a line alone, and not before a misspelt keyword.
-abbrev pub meant_for_line : (before from : List ℕ) → Option Meant
-meant_for_line before from =
-    if not (is_none from) && behind_line_feed before && not (is_misspelt (word_at from)) then Some Means.Semicolon else None
+abbrev pub IsLineMending : Scene → Option Token → Option Mending → Type 0
+IsLineMending s None m = m ≡ None
+IsLineMending s (Some token) m = IsWhere (IsTrue (lacks_semicolon s token)) (semicolon_at s.place) m
 
--- the keywords that neither begin nor end a line, in any letters
-abbrev pub is_other_keyword : (word : List ℕ) → Bool
-is_other_keyword word =
-    is_same_in_any_case word (codes "MODULE") || is_same_in_any_case word (codes "THEN") || is_same_in_any_case word (codes "DO")
-    || is_same_in_any_case word (codes "OF") || is_same_in_any_case word (codes "ARRAY") || is_same_in_any_case word (codes "RECORD")
-    || is_same_in_any_case word (codes "DIV") || is_same_in_any_case word (codes "MOD") || is_same_in_any_case word (codes "OR")
+-- ---- the mending of a fault
 
--- a keyword in which some letters are small, as `begin`
-abbrev pub is_lowered : (word : List ℕ) → Bool
-is_lowered word = not (list_all is_ascii_uppercase word) && (is_small_keyword word || is_other_keyword word)
+-- A token that can't stand at a place: it is a slip of a sign; else it is a keyword in small letters, or the one before it is, or the one with
+-- which the statement begins, as in `if (x = 1) THEN`; else a `;` is missing.
+abbrev pub IsTokenMending : Scene → Option Mending → Type 0
+IsTokenMending s m =
+    IsElse (IsSignMending s.text s.place)
+    (IsElse (IsKeywordMending s (here s))
+    (IsElse (IsKeywordMending s (last s))
+    (IsElse (IsKeywordMending s (first_of_statement s)) (IsLineMending s (here s))))) m
 
--- the letters and digits at the end of some bytes, the last one first
-abbrev pub last_word : List ℕ → List ℕ
-last_word bytes = take_while is_ascii_alphanumeric (reverse bytes)
+abbrev pub IsUnexpectedMending : (text : List ℕ) → (place : ℕ) → Option Mending → Type 0
+IsUnexpectedMending text place m = (s : Scene) × IsScene text place s × IsTokenMending s m
 
--- where the last word of some bytes begins, behind which only blanks stand
-abbrev pub last_word_place : List ℕ → ℕ
-last_word_place bytes = shown_place bytes (length bytes) - length (last_word (take (shown_place bytes (length bytes)) bytes))
+-- of the rules C1 alone is broken by a slip
+abbrev pub IsRuleMending : (text : List ℕ) → Rule → (place : ℕ) → Option Mending → Type 0
+IsRuleMending text Rules.UnknownName place m = IsNameMending Numbers.C1 near_named text place m
+IsRuleMending text _ place m = m ≡ None
 
-abbrev pub or_else : Option Mending → Option Mending → Option Mending
-or_else None other = other
-or_else (Some m) other = Some m
+-- the mending of the slip from which a fault of a text comes, where it is one that is known
+abbrev pub IsMending : (text : List ℕ) → TextFault → Option Mending → Type 0
+IsMending text (Text.Scan (Scan.StrayByte place)) m = IsSignMending text place m
+IsMending text (Text.Parse (Parse.Unexpected place)) m = IsUnexpectedMending text place m
+IsMending text (Text.Parse (Parse.NameDiffers place)) m = IsNameMending Numbers.P3 end_named text place m
+IsMending text (Text.Check (Check.Broken broken)) m = IsRuleMending text broken.rule broken.place m
+IsMending text e m = m ≡ None
 
-abbrev pub mending_at : (place : ℕ) → Option Meant → Option Mending
-mending_at place meant = option_map (λ m. record { place = place; meant = m; taken = taken m; put = length (put m) }) meant
-
--- of a word that is such a keyword; it stays as long
-abbrev pub keyword_mending : (place : ℕ) → (word : List ℕ) → Option Mending
-keyword_mending place word =
-    if is_lowered word then Some (record { place = place; meant = Means.Capitals; taken = length word; put = length word }) else None
-
--- of a sign at the place of a token or at the byte before it, of a word as this says, or of a line
-abbrev pub token_mending : (place : ℕ) → (before from : List ℕ) → (word : Option Mending) → Option Mending
-token_mending place before from word =
-    or_else (mending_at (place - 1) (meant_for_pair before from))
-    (or_else (mending_at place (meant_for_sign before from)) (or_else word (mending_at place (meant_for_line before from))))
-
--- The mending of a slip at the place of a fault of a text: of a byte that begins no token, and of a token that can't stand there. Words are
--- none of these.
-abbrev pub mending_of : (text : List ℕ) → TextFault → Option Mending
-mending_of text (Text.Scan (Scan.StrayByte place)) = mending_at place (meant_for_byte (drop place text))
-mending_of text (Text.Parse (Parse.Unexpected place)) = token_mending place (take place text) (drop place text) None
-mending_of text _ = None
+-- ---- faults behind it
 
 -- a place of the text with a mending stands elsewhere than this
 abbrev pub is_off : Mending → ℕ → Bool

@@ -4,13 +4,14 @@
 //! and the words, may change without asking.
 #![tactic(auto)]
 
-pub mod behind;
+pub mod further_faults;
 pub mod mending;
+mod signs;
 pub mod slip;
 pub mod slip_remark;
 pub mod stage;
 mod verdict;
-pub mod word_mending;
+mod word_mending;
 
-pub use behind::told_behind;
+pub use further_faults::told_behind;
 pub use slip_remark::text_remark;

@@ -2,8 +2,9 @@
 
 ghost use Rattle.std.specs.Prelude.{◌≡◌, IfOk, map, string_bytes};
 ghost use Rattle.std.specs.Char.{to_ascii_uppercase};
-ghost use Rattle.ob_slips.specs.Mendings.{blank_for, capitalised, letter_for, mended, mending_text, name_text, origin, origin_in, phrase, put, renamed, spliced, taken};
+ghost use Rattle.ob_slips.specs.Mendings.{capitalised, filled_up, letter_for, mended, mending_text, name_text, origin, origin_in, phrase, put, renamed, spliced};
 
+use ob_evidence::small_keywords::capitals;
 use ob_explain_words::distance::{Named, bytes_of};
 use ob_messages::place::halves;
 use ob_messages::shown::push_line;
@@ -16,7 +17,6 @@ pub enum Meant {
     Semicolon,
     /// `:=`, where `=` stands, and where `=:` or `==` does.
     Assign,
-    AssignForTwo,
     /// One `=`, and one `&`, where a second one stands.
     OneEqual,
     OneAnd,
@@ -89,18 +89,7 @@ fn capitalised(alloc: Global, text: &[u8], mending: Mending) -> Result<Vec<u8>, 
     spliced(alloc, text, mending, &word)
 }
 
-/// A word in capitals.
-fn capitals(alloc: Global, word: &[u8]) -> Result<Vec<u8>, AllocError>
-    ensures { IfOk result (λ whole. whole.items ≡ map to_ascii_uppercase word.now) }
-{
-    let mut whole = Vec::new(alloc);
-    for byte in word {
-        whole.push(byte.to_ascii_uppercase())?;
-    }
-    Ok(whole)
-}
-
-/// The text with a name in place of the word there, and blanks for the letters that the word has more.
+/// The text with a name in place of the word there, and blanks behind it up to the longer one of both.
 fn renamed(
     alloc: Global,
     text: &[u8],
@@ -109,31 +98,19 @@ fn renamed(
 ) -> Result<Vec<u8>, AllocError>
     ensures { IfOk result (λ whole. whole.items ≡ renamed text.now mending named) }
 {
-    let name = bytes_of(text, named);
-    let (_, from) = halves(text, mending.place);
-    let (word, _) = halves(from, mending.taken);
-    let (_, more) = halves(word, name.len());
-    let blanks = blanks(alloc, more)?;
-    let mut put = Vec::from_slice(alloc, name)?;
-    put.extend_from_slice(&blanks)?;
+    let put = filled_up(alloc, bytes_of(text, named), mending.put)?;
     spliced(alloc, text, mending, &put)
 }
 
-/// A blank for each of some bytes.
-fn blanks(alloc: Global, bytes: &[u8]) -> Result<Vec<u8>, AllocError>
-    ensures { IfOk result (λ whole. whole.items ≡ map blank_for bytes.now) }
+/// A name, and blanks behind it up to so many bytes.
+fn filled_up(alloc: Global, name: &[u8], bytes: usize) -> Result<Vec<u8>, AllocError>
+    ensures { IfOk result (λ whole. whole.items ≡ filled_up name.now bytes) }
 {
-    let mut whole = Vec::new(alloc);
-    for byte in bytes {
-        whole.push(blank_for(*byte))?;
+    let mut whole = Vec::from_slice(alloc, name)?;
+    for _at in 0..bytes.saturating_sub(name.len()) {
+        whole.push(b' ')?;
     }
     Ok(whole)
-}
-
-fn blank_for(_byte: u8) -> u8
-    ensures { result ≡ blank_for _byte }
-{
-    b' '
 }
 
 /// The text with these bytes at the place alone.
@@ -177,41 +154,15 @@ pub fn origin(mending: Mending, at: usize) -> usize
     }
 }
 
-/// How many bytes a mending takes out; none of a word, which has its own length.
-pub(crate) fn taken(meant: Meant) -> usize
-    ensures { result ≡ taken meant }
-{
-    match meant {
-        Meant::Semicolon => 0,
-        Meant::Assign => 1,
-        Meant::AssignForTwo => 2,
-        Meant::OneEqual => 1,
-        Meant::OneAnd => 1,
-        Meant::Div => 1,
-        Meant::Mod => 1,
-        Meant::Or => 2,
-        Meant::Not => 1,
-        Meant::NotEqual => 2,
-        Meant::Unequal => 2,
-        Meant::AtLeast => 2,
-        Meant::AtMost => 2,
-        Meant::Arrow => 2,
-        Meant::Letter => 1,
-        Meant::Capitals => 0,
-        Meant::Name(_) => 0,
-    }
-}
-
-/// What it puts there; nothing for a word, which comes of the text.
+/// What a mending puts there; nothing for a word, which comes of the text.
 pub(crate) fn put(meant: Meant) -> &'static [u8]
     ensures { result.now ≡ put meant }
 {
     match meant {
         Meant::Semicolon => b";",
         Meant::Assign => b":=",
-        Meant::AssignForTwo => b":=",
-        Meant::OneEqual => b" ",
-        Meant::OneAnd => b" ",
+        Meant::OneEqual => b"= ",
+        Meant::OneAnd => b"& ",
         Meant::Div => b" DIV ",
         Meant::Mod => b" MOD ",
         Meant::Or => b" OR ",
@@ -254,7 +205,6 @@ pub fn phrase(meant: Meant) -> &'static str
     match meant {
         Meant::Semicolon => "with a ; before it",
         Meant::Assign => "with := in its place",
-        Meant::AssignForTwo => "with := in its place",
         Meant::OneEqual => "with one =",
         Meant::OneAnd => "with one &",
         Meant::Div => "with DIV in its place",

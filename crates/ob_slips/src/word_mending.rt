@@ -1,124 +1,125 @@
-//! The mending of a slip, also of a word: of a keyword in small letters, and of a name that is not there, where another one is near.
+//! The mending of a word: of a keyword in small letters, of a name that is not there, where another one is near, and of one behind END.
 
-ghost use Rattle.std.specs.Prelude.{◌≡◌, IfOk};
-ghost use Rattle.ob_slips.specs.WordMendings.{IsKeywordMending, IsMending, IsNearMending, IsRuleMending, IsUnexpectedMending, longer, renaming};
+ghost use Rattle.std.specs.Prelude.{◌≡◌, IfOk, option_map};
+ghost use Rattle.ob_evidence.specs.Sites.{scene_of};
+ghost use Rattle.ob_messages.specs.Remarks.{remark_of};
+ghost use Rattle.ob_messages.specs.declared.table_rows.Number.TheVariants as Numbers;
+ghost use Rattle.ob_slips.specs.Slips.{IsKeywordMending, IsNameMending, end_named, in_capitals, near_named, renaming, unless_hint};
 
 use crate::mending::{Meant, Mending};
-use crate::slip::{keyword_mending, last_word_place, mending_of, or_else, token_mending};
-use ob_check::TextFault;
-use ob_evidence::names::{is_near, near_name};
+use ob_diagnosis::module_remark::remark_on;
+use ob_evidence::nearest_names::{end_name, is_near, near_name};
+use ob_evidence::small_keywords::small_keyword;
 use ob_evidence::text_site::{Site, look_around};
-use ob_explain_tokens::around::tokens_of;
-use ob_explain_words::declaring::declares;
-use ob_explain_words::distance::{Candidate, bytes_of};
-use ob_messages::first_word::word_at;
-use ob_messages::place::halves;
-use ob_parser::parser::ParseFault;
+use ob_explain_words::distance::{Named, bytes_of};
+use ob_messages::remark::Remark;
+use ob_messages::table_rows::Number;
 use ob_scan::Token;
-use ob_scopes::fault::CheckFault;
-use ob_typing::rule::Rule;
 use std::alloc::{AllocError, Global};
 
-/// The mending of the slip from which a fault of a text comes, where it is one that is known: also of a name.
-pub fn slip_mending(
+/// The mending of a token, if it is a keyword in small letters.
+pub(crate) fn keyword_mending(
     alloc: Global,
-    text: &[u8],
-    fault: TextFault,
+    site: &Site<'_, '_>,
+    token: Option<Token>,
 ) -> Result<Option<Mending>, AllocError>
-    ensures { IfOk result (IsMending text.now fault) }
+    ensures { IfOk result (IsKeywordMending (scene_of site.now) token) }
 {
-    match fault {
-        TextFault::Check(CheckFault::Broken(broken)) => {
-            rule_mending(alloc, text, broken.rule, broken.place)
-        }
-        TextFault::Parse(ParseFault::Unexpected(place)) => unexpected_mending(alloc, text, place),
-        _ => Ok(mending_of(text, fault)),
-    }
-}
-
-/// The mending at a token that can't stand there: also of a keyword in small letters, there or right before it.
-fn unexpected_mending(
-    alloc: Global,
-    text: &[u8],
-    place: usize,
-) -> Result<Option<Mending>, AllocError>
-    ensures { IfOk result (IsUnexpectedMending text.now place) }
-{
-    let tokens = tokens_of(alloc, text)?;
-    let (before, from) = halves(text, place);
-    let here = new_keyword(text, &tokens, place, word_at(from));
-    let last = last_word_place(before);
-    let (_, word) = halves(before, last);
-    let other = new_keyword(text, &tokens, last, word_at(word));
-    Ok(token_mending(place, before, from, or_else(here, other)))
-}
-
-/// The mending of a word that is a keyword in small letters, and no name that the text declares.
-fn new_keyword(text: &[u8], tokens: &[Token], place: usize, word: &[u8]) -> Option<Mending>
-    ensures { IsKeywordMending text.now tokens.now place word.now result }
-{
-    if declares(text, tokens, word) {
-        None
-    } else {
-        keyword_mending(place, word)
-    }
-}
-
-/// The mending at the place where a rule is broken.
-fn rule_mending(
-    alloc: Global,
-    text: &[u8],
-    rule: Rule,
-    place: usize,
-) -> Result<Option<Mending>, AllocError>
-    ensures { IfOk result (IsRuleMending text.now rule place) }
-{
-    match rule {
-        Rule::UnknownName => near_mending(alloc, text, place),
-        _ => Ok(None),
-    }
-}
-
-/// The mending of a name at a place that is not there.
-fn near_mending(alloc: Global, text: &[u8], place: usize) -> Result<Option<Mending>, AllocError>
-    ensures { IfOk result (IsNearMending text.now place) }
-{
-    let found = look_around(alloc, text, place)?;
-    let site = Site {
-        text,
-        place,
-        tokens: &found.tokens,
-        before: &found.before,
-        behind: &found.behind,
-        known: &found.known,
+    let Some(name) = token else {
+        return Ok(None);
     };
-    let near = near_name(alloc, &site)?;
-    Ok(renaming(text, place, site.word(), near))
-}
-
-/// A name that is near, in place of a word at a place.
-fn renaming(text: &[u8], place: usize, word: &[u8], near: Candidate) -> Option<Mending>
-    ensures { result ≡ renaming text.now place word.now near }
-{
-    if is_near(near) {
-        Some(Mending {
-            place,
-            meant: Meant::Name(near.named),
-            taken: word.len(),
-            put: longer(bytes_of(text, near.named), word),
-        })
-    } else {
-        None
+    match small_keyword(alloc, site, name)? {
+        Some(_keyword) => Ok(Some(in_capitals(site, name))),
+        None => Ok(None),
     }
 }
 
-/// The length of the longer one of two words.
-fn longer(name: &[u8], word: &[u8]) -> usize
-    ensures { result ≡ longer name.now word.now }
+/// A name in capitals.
+fn in_capitals(site: &Site<'_, '_>, name: Token) -> Mending
+    ensures { result ≡ in_capitals (scene_of site.now) name }
 {
-    if name.len() < word.len() {
-        word.len()
+    let length = site.word_of(Some(name)).len();
+    Mending {
+        place: name.start,
+        meant: Meant::Capitals,
+        taken: length,
+        put: length,
+    }
+}
+
+/// The mending of a name at a place of which none is visible there, where a near one is asked about.
+pub(crate) fn near_mending(
+    alloc: Global,
+    text: &[u8],
+    place: usize,
+) -> Result<Option<Mending>, AllocError>
+    ensures { IfOk result (IsNameMending Numbers.C1 near_named text.now place) }
+{
+    let remark = remark_on(alloc, text, Number::C1, place)?;
+    let found = look_around(alloc, text, place)?;
+    let site = found.site(text, place);
+    let near = near_named(alloc, &site)?;
+    Ok(name_mending(&site, &remark, near))
+}
+
+/// The mending of a name at a place behind an END that closes something of another name.
+pub(crate) fn end_mending(
+    alloc: Global,
+    text: &[u8],
+    place: usize,
+) -> Result<Option<Mending>, AllocError>
+    ensures { IfOk result (IsNameMending Numbers.P3 end_named text.now place) }
+{
+    let remark = remark_on(alloc, text, Number::P3, place)?;
+    let found = look_around(alloc, text, place)?;
+    let site = found.site(text, place);
+    Ok(name_mending(&site, &remark, end_named(&site)))
+}
+
+/// The nearest name, where one is near.
+fn near_named(alloc: Global, site: &Site<'_, '_>) -> Result<Option<Named>, AllocError>
+    ensures { IfOk result (λ named. named ≡ near_named (scene_of site.now)) }
+{
+    let near = near_name(alloc, site)?;
+    if is_near(near) {
+        Ok(Some(near.named))
     } else {
-        name.len()
+        Ok(None)
+    }
+}
+
+/// The name of what the END before the place closes.
+fn end_named(site: &Site<'_, '_>) -> Option<Named>
+    ensures { result ≡ end_named (scene_of site.now) }
+{
+    match end_name(site) {
+        Some(token) => Some(Named::At(token.start)),
+        None => None,
+    }
+}
+
+/// The mending by a name that is meant there, beside a remark without a hint.
+fn name_mending(site: &Site<'_, '_>, remark: &Remark, named: Option<Named>) -> Option<Mending>
+    ensures { result ≡ unless_hint (remark_of remark.now).hint (option_map (renaming (scene_of site.now)) named) }
+{
+    if remark.hint.is_some() {
+        return None;
+    }
+    match named {
+        Some(named) => Some(renaming(site, named)),
+        None => None,
+    }
+}
+
+/// A name in place of the word there.
+fn renaming(site: &Site<'_, '_>, named: Named) -> Mending
+    ensures { result ≡ renaming (scene_of site.now) named }
+{
+    let length = site.word().len();
+    Mending {
+        place: site.place,
+        meant: Meant::Name(named),
+        taken: length,
+        put: bytes_of(site.text, named).len().max(length),
     }
 }
