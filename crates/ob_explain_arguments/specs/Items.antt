@@ -1,21 +1,27 @@
 -- What is said of a word of a schedule that is no item.
-use Rattle.std.specs.Prelude.{ℕ, ◌==◌, ◌||◌, ◌++◌, nat_lt, List, [], ◌∷◌, codes, drop, if◌then◌else◌}
+use Rattle.std.specs.Prelude.{ℕ, ◌==◌, ◌||◌, ◌++◌, nat_lt, List, [], ◌∷◌, Option, None, Some, codes, drop, if◌then◌else◌}
 use Rattle.std.specs.Char.{is_ascii_digit, is_ascii_lowercase}
 use Rattle.std.specs.List.{list_any, prefix_len}
 use Rattle.ob_explain_arguments.specs.Marks.{begins, begins_comment, byte_order_mark, has, order_mark_sentence}
+use Rattle.ob_explain_arguments.specs.Near.{near_label}
 
 abbrev pub item_form : List ℕ
 item_form = codes "an item is a process with *STEPS, :LABEL or ! behind it, and no blanks between, as 0*3, 0:TRY or 0!"
 
--- all labels
-abbrev pub labels : List ℕ
-labels =
-    codes "NEXT, POST, FLIP, TRY, LINK, LOAD, STORE, CHECK1, MINE, SEEN, FETCH, CHECK2, SAVE, ENTER, BODY, UNDO, KEEP, COMMIT, READ, TAKE and GIVE"
+-- of a label that is near, or else which ones there are
+abbrev pub near_or_labels : Option (List ℕ) → List ℕ
+near_or_labels None =
+    codes "; they are NEXT, POST, FLIP, TRY, LINK, LOAD, STORE, CHECK1, MINE, SEEN, FETCH, CHECK2, SAVE, ENTER, BODY, UNDO, KEEP, COMMIT, READ, TAKE and GIVE"
+near_or_labels (Some name) = codes "; did you mean `" ++ name ++ codes "`?"
+
+-- what labels are
+abbrev pub label_form : (behind : List ℕ) → List ℕ
+label_form behind =
+    if list_any is_ascii_lowercase behind then codes "labels are written in capitals, as 0:TRY"
+    else codes "behind : stands a label, with no blank before it"
 
 abbrev pub label_sentence : (behind : List ℕ) → List ℕ
-label_sentence behind =
-    if list_any is_ascii_lowercase behind then codes "labels are written in capitals, as 0:TRY; they are " ++ labels
-    else codes "behind : stands a label, with no blank before it; they are " ++ labels
+label_sentence behind = label_form behind ++ near_or_labels (near_label behind)
 
 -- by what stands behind the digits of a process: nothing, *, :, ! or something else
 abbrev pub deed_sentence : (behind : List ℕ) → List ℕ

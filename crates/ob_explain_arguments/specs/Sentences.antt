@@ -5,6 +5,7 @@ use Rattle.ob_interface.specs.declared.scalar.ScalarType.TheVariants.{Integer, B
 use Rattle.ob_interface.specs.Export.{Signature}
 use Rattle.ob_text_words.specs.Words.{Word}
 use Rattle.ob_explain_arguments.specs.Near.{near_export}
+use Rattle.ob_explain_arguments.specs.Values.{mark_sentence}
 
 -- a name in quotes
 abbrev pub name_text : Signature → List ℕ
@@ -29,9 +30,14 @@ abbrev pub near_or_all : List Signature → Option Signature → List ℕ
 near_or_all signatures None = listed_names signatures
 near_or_all signatures (Some near) = question_text near
 
+-- of the marks in a name, as of those in a value; where it has none, of an export that is near, or else which exports there are
+abbrev pub marks_or_near : List Signature → Word → List ℕ
+marks_or_near signatures name =
+    if length (mark_sentence name) == 0 then near_or_all signatures (near_export signatures name) else mark_sentence name
+
 abbrev pub unknown_sentence : List Signature → Word → List ℕ
 unknown_sentence signatures name =
-    codes "a call names a procedure that the module exports, which has a * behind its name there" ++ near_or_all signatures (near_export signatures name)
+    codes "a call names a procedure that the module exports, which has a * behind its name there" ++ marks_or_near signatures name
 
 -- of a name that is one of a procedure which is not exported
 abbrev pub private_sentence : List Signature → List ℕ

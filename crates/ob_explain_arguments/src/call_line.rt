@@ -6,7 +6,7 @@ ghost use Rattle.ob_interface.specs.View.{signature_of};
 ghost use Rattle.ob_explain_arguments.specs.Calls.{IsMisfitTold, IsToldBehind, IsToldOf, IsToldOfCall, IsUnknownTold, misfit_told, told_of, value_told};
 ghost use Rattle.ob_explain_arguments.specs.Calls.{value_word};
 
-use crate::declared::is_declared;
+use crate::declared_procedures::is_declared;
 use crate::misfit::{Misfit, first_misfit};
 use crate::sentences::{count_sentence, unknown_text, value_sentence};
 use crate::value_marks::mark_sentence;

@@ -2,7 +2,7 @@
 #![tactic(auto)]
 
 pub mod call_line;
-pub mod declared;
+pub mod declared_procedures;
 pub mod first_line;
 pub mod items;
 pub mod misfit;

@@ -3,11 +3,12 @@
 ghost use Rattle.std.specs.Prelude.{◌≡◌, ◌∷◌, ◌++◌, IfOk, OnOk, map, string_bytes};
 ghost use Rattle.ob_explain_arguments.specs.Near.{lent_signature};
 ghost use Rattle.ob_explain_arguments.specs.Sentences.{count_sentence, done_sentence, further_names, further_types, listed_names, listed_types};
-ghost use Rattle.ob_explain_arguments.specs.Sentences.{name_text, near_or_all, private_sentence, question_text, taken_text, type_name};
+ghost use Rattle.ob_explain_arguments.specs.Sentences.{marks_or_near, name_text, near_or_all, private_sentence, question_text, taken_text, type_name};
 ghost use Rattle.ob_explain_arguments.specs.Sentences.{unknown_sentence, unknown_text, value_sentence, values_noun};
 ghost use Rattle.ob_interface.specs.View.{signature_of};
 
 use crate::near::near_export;
+use crate::value_marks::mark_sentence;
 use ob_interface::export::Export;
 use ob_interface::scalar::ScalarType;
 use ob_text_words::numbers::push_number;
@@ -49,8 +50,24 @@ fn unknown_sentence(alloc: Global, exports: &[Export], name: &[u8]) -> Result<St
         alloc,
         "a call names a procedure that the module exports, which has a * behind its name there",
     )?;
-    push_near(&mut sentence, exports, near_export(exports, name))?;
+    push_marks_or_near(&mut sentence, exports, name)?;
     Ok(sentence)
+}
+
+/// Appends what is said of the marks in a name, or else of the exports.
+fn push_marks_or_near(
+    sentence: &mut String,
+    exports: &[Export],
+    name: &[u8],
+) -> Result<(), AllocError>
+    ensures { OnOk result (string_bytes sentence.new ≡ string_bytes sentence.old ++ marks_or_near (map signature_of exports.now) name.now) }
+{
+    let marks = mark_sentence(name);
+    if marks.is_empty() {
+        push_near(sentence, exports, near_export(exports, name))
+    } else {
+        sentence.push_str(marks)
+    }
 }
 
 /// Appends the question whether this export is meant, or else which ones there are.

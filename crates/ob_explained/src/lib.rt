@@ -6,12 +6,12 @@
 pub mod call_remark;
 pub mod carried_values;
 pub mod cause;
+pub mod explained_run;
 pub mod item_place;
 pub mod laws;
 pub mod named_texts;
 pub mod number_fault;
 pub mod opening_traps;
-pub mod run_faults;
 pub mod run_remark;
 pub mod script_place;
 pub mod script_remark;
@@ -19,6 +19,6 @@ pub mod shown_fault;
 pub mod value_line;
 
 pub use carried_values::{carry_explanation, values_explanation};
+pub use explained_run::run_explanation;
 pub use named_texts::Source;
-pub use run_faults::run_explanation;
 pub use shown_fault::{calls_explanation, module_explanation, object_explanation};

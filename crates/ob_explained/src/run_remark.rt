@@ -62,8 +62,8 @@ pub fn schedule_remark(
 {
     match fault {
         ScheduleFault::Form(item) => {
-            let sentence = item_sentence(item_at(alloc, schedule, item)?);
-            told_of_item(alloc, schedule, item, String::from_str(alloc, sentence)?)
+            let word = item_at(alloc, schedule, item)?;
+            told_of_item(alloc, schedule, item, item_sentence(alloc, word)?)
         }
         ScheduleFault::Process(item) => {
             told_of_item(alloc, schedule, item, processes_sentence(alloc, n)?)

@@ -9,14 +9,14 @@ use Rattle.ob_explain_arguments.specs.Sentences.{done_sentence, value_sentence}
 use Rattle.ob_explain_arguments.specs.declared.misfit.Misfit.{Misfit}
 use Rattle.ob_explain_arguments.specs.declared.misfit.Misfit.TheVariants.{Count, Value}
 use Rattle.ob_explained_lines.specs.CallPlaces.{IsBeginPlace, IsCallWithin, IsLineBefore, NamesNoCall, ended_text, not_begun_text}
-use Rattle.ob_explained_lines.specs.declared.cause.Cause as Declared
-use Rattle.ob_explained_lines.specs.declared.cause.Letter.{Letter}
-use Rattle.ob_explained_lines.specs.declared.cause.Letter.TheVariants as Letters
-use Rattle.ob_explained_lines.specs.declared.cause.Object as Rust
-use Rattle.ob_explained_lines.specs.declared.cause.Outcome.{Outcome}
-use Rattle.ob_explained_lines.specs.declared.cause.Outcome.TheVariants as Outcomes
-use Rattle.ob_explained_lines.specs.declared.cause.Spot.{Spot}
-use Rattle.ob_explained_lines.specs.declared.cause.Spot.TheVariants as Spots
+use Rattle.ob_explained_lines.specs.declared.line_cause.Cause as Declared
+use Rattle.ob_explained_lines.specs.declared.line_cause.Letter.{Letter}
+use Rattle.ob_explained_lines.specs.declared.line_cause.Letter.TheVariants as Letters
+use Rattle.ob_explained_lines.specs.declared.line_cause.Object as Rust
+use Rattle.ob_explained_lines.specs.declared.line_cause.Outcome.{Outcome}
+use Rattle.ob_explained_lines.specs.declared.line_cause.Outcome.TheVariants as Outcomes
+use Rattle.ob_explained_lines.specs.declared.line_cause.Spot.{Spot}
+use Rattle.ob_explained_lines.specs.declared.line_cause.Spot.TheVariants as Spots
 use Rattle.ob_explained_lines.specs.declared.record_line.Wanted.TheVariants as Wants
 use Rattle.ob_interface.specs.Export.{Signature, var_types}
 use Rattle.ob_interface.specs.View.{signature_of}

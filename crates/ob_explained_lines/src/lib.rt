@@ -3,5 +3,5 @@
 
 pub mod call_name;
 pub mod call_place;
-pub mod cause;
+pub mod line_cause;
 pub mod record_line;

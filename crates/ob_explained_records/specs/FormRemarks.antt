@@ -8,7 +8,7 @@ use Rattle.ob_checked.specs.Exports.{signatures}
 use Rattle.ob_explained.specs.ScriptPlaces.{first_place, in_line, line_begin, word_place}
 use Rattle.ob_explained_lines.specs.Causes.{Cause, IsLineCause, Object, cause_at, has_budget, has_openings, head_words, words_before}
 use Rattle.ob_explained_lines.specs.Lines.{IsLine}
-use Rattle.ob_explained_lines.specs.declared.cause.Spot.TheVariants as Spots
+use Rattle.ob_explained_lines.specs.declared.line_cause.Spot.TheVariants as Spots
 use Rattle.ob_explained_lines.specs.declared.record_line.Wanted.TheVariants as Wants
 use Rattle.ob_text_values_reading.specs.Comments.{said_number}
 use Rattle.ob_text_words.specs.Words.{lines, words}

@@ -10,7 +10,7 @@ use std::alloc::{AllocError, Global};
 use wf_history::CallId;
 
 /// A process is a number below this: of nine digits at most.
-const PROCESS_NUMBERS: usize = 1_000_000_000;
+pub(crate) const PROCESS_NUMBERS: usize = 1_000_000_000;
 
 /// The number of the first line, from 1, in which a call ends, where there is one.
 pub(crate) fn end_line(alloc: Global, text: &[u8], id: CallId) -> Result<Option<usize>, AllocError>

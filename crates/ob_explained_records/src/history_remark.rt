@@ -1,19 +1,15 @@
 //! The remark on a line of a history that can't stand there.
 
-ghost use Rattle.std.specs.Prelude.{ℕ, IfOk, None, option_map};
-ghost use Rattle.ob_check.specs.CheckedText.{IsNumberedText, TellsTextMemoryApart};
+ghost use Rattle.std.specs.Prelude.{IfOk, None, option_map};
 ghost use Rattle.ob_messages.specs.Remarks.{remark_of};
 ghost use Rattle.ob_explained_lines.specs.Causes.{cause_of};
 ghost use Rattle.ob_explained_records.specs.HistoryForms.{IsEventsCause, IsHistoryCause, IsHistoryFormRemark, IsHistoryTold};
-ghost use Rattle.ob_typing.specs.ModuleText.{IsModule};
-ghost use Rattle.ob_typing.specs.Program.{Program};
 
 use crate::history_sentences::first_sentence;
-use crate::record_remark::{is_behind, is_memory, place_of_spot};
-use ob_check::TextFault;
+use crate::record_remark::{is_behind, no_cause, place_of_spot};
 use ob_check::module_text::checked_text;
 use ob_explained::script_place::{first_place, script_line};
-use ob_explained_lines::cause::{Cause, Object, history_line_cause};
+use ob_explained_lines::line_cause::{Cause, Object, history_line_cause};
 use ob_explained_lines::record_line::{Wanted, first_line};
 use ob_messages::remark::Remark;
 use std::alloc::{AllocError, Global};
@@ -68,25 +64,7 @@ fn events_cause(
             };
             history_line_cause(alloc, object, text, number)
         }
-        Err(fault) => no_cause(object, text, number, fault),
-    }
-}
-
-/// There are no exports where the text is no module.
-fn no_cause(
-    object: &[u8],
-    text: &[u8],
-    number: usize,
-    fault: TextFault,
-) -> Result<Option<Cause>, AllocError>
-    requires none { IsNumberedText fault → (program : Program) → IsModule object.now program → ⊥ }
-    requires apart { TellsTextMemoryApart fault }
-    ensures { IfOk result (λ cause. IsEventsCause object.now text.now number (option_map cause_of cause)) }
-{
-    if is_memory(fault) {
-        Err(AllocError)
-    } else {
-        Ok(None)
+        Err(fault) => no_cause(object, fault),
     }
 }
 

@@ -1,12 +1,14 @@
 //! What is said at the first word of a line of a history that can't stand there, by its variables and by the lines before it. Only the
 //! place is promised.
 
+use crate::end_line::PROCESS_NUMBERS;
 use ob_check::TextFault;
 use ob_check::module_text::checked_text;
 use ob_checked::program::Variable;
 use ob_checked::types::DataType;
 use ob_interface::scalar::ScalarType;
 use ob_text_values_reading::line_words::next_word;
+use ob_text_values_reading::taken_names::take_id;
 use ob_text_words::numbers::push_number;
 use std::alloc::{AllocError, Global};
 
@@ -172,11 +174,25 @@ fn value_text(data_type: &DataType) -> &'static str {
 /// What is said of a line by its first word and the lines before it. That of an event, of an order or of a value that the object began with
 /// is one letter; that of an S or V line need only begin so.
 fn letter_sentence(alloc: Global, placed: Placed<'_>) -> Result<String, AllocError> {
+    if is_small_event(placed.line) {
+        return String::from_str(
+            alloc,
+            "an event begins with a capital letter: B where a call begins, as B 0.1 Add 3, and E where it ends, as E 0.1 done 3",
+        );
+    }
     match first_word(placed.line) {
         b"b" => budget_sentence(alloc, placed.before),
         b"n" => count_sentence(alloc, placed.before),
         [b'o', ..] => String::from_str(alloc, title_text(placed.before)),
         word => String::from_str(alloc, letter_text(word)),
+    }
+}
+
+/// Whether a line is an event but for its letter, which is a small one: behind it a call is named.
+fn is_small_event(line: &[u8]) -> bool {
+    match next_word(line) {
+        Some((b"b" | b"e", rest)) => take_id(PROCESS_NUMBERS, rest).is_some(),
+        _ => false,
     }
 }
 

@@ -6,7 +6,7 @@
 mod end_line;
 mod end_remark;
 mod end_sentence;
-pub mod history;
+pub mod explained_history;
 mod history_remark;
 mod history_sentences;
 mod order_place;
@@ -15,5 +15,5 @@ pub mod record_faults;
 pub mod record_remark;
 mod reply_sentence;
 
-pub use history::history_explanation;
+pub use explained_history::history_explanation;
 pub use record_faults::record_explanation;

@@ -17,7 +17,7 @@ use ob_check::module_text::checked_text;
 use ob_checked::program::Variable;
 use ob_explain_arguments::first_line::title_sentence;
 use ob_explained::script_place::{behind_place, first_place, script_line, word_place};
-use ob_explained_lines::cause::{Cause, Object, Spot, has_budget, has_openings, line_cause};
+use ob_explained_lines::line_cause::{Cause, Object, Spot, has_budget, has_openings, line_cause};
 use ob_explained_lines::record_line::{Wanted, first_line};
 use ob_interface::export::Export;
 use ob_messages::first_word::begins_with;
@@ -134,7 +134,7 @@ fn module_cause(
             let opened = opened_at(openings, variables, said_number(text, number));
             placed_cause(alloc, object, checked.exports(), text, number, opened)
         }
-        Err(fault) => no_cause(object, text, number, fault),
+        Err(fault) => no_cause(object, fault),
     }
 }
 
@@ -200,16 +200,11 @@ fn exports_cause(
     line_cause(alloc, object, text, number)
 }
 
-/// There are no exports where the text is no module.
-fn no_cause(
-    object: &[u8],
-    text: &[u8],
-    number: usize,
-    fault: TextFault,
-) -> Result<Option<Cause>, AllocError>
+/// No cause is told where the text is no module, since it has no exports.
+pub(crate) fn no_cause(object: &[u8], fault: TextFault) -> Result<Option<Cause>, AllocError>
     requires none { IsNumberedText fault → (program : Program) → IsModule object.now program → ⊥ }
     requires apart { TellsTextMemoryApart fault }
-    ensures { IfOk result (λ cause. IsModuleCause object.now text.now number (option_map cause_of cause)) }
+    ensures { IfOk result (λ cause. (option_map cause_of cause ≡ None) × ((program : Program) → IsModule object.now program → ⊥)) }
 {
     if is_memory(fault) {
         Err(AllocError)
@@ -218,7 +213,7 @@ fn no_cause(
     }
 }
 
-pub(crate) fn is_memory(fault: TextFault) -> bool
+fn is_memory(fault: TextFault) -> bool
     ensures { result ≡ is_text_memory fault }
 {
     matches!(fault, TextFault::NoMemory)

@@ -1,6 +1,6 @@
 //! Plain forms of commands: the names of files, which are no options, and the number of processes where the command has one.
 
-ghost use Rattle.std.specs.Prelude.{◌≡◌, ◌∷◌, [], Some, codes, map, IfSome};
+ghost use Rattle.std.specs.Prelude.{◌≡◌, ◌∷◌, [], Some, codes, false, map, true, IfSome};
 ghost use Rattle.ob_command.specs.CommandLine.{is_option, number, request};
 ghost use Rattle.ob_command.specs.Commands.{calls_request_of, request_of};
 ghost use Rattle.ob_command_laws.specs.PlainForms.{calls_with};
@@ -38,7 +38,7 @@ pub fn plain_command<'a>(words: &'a [&'a str]) -> Option<Command<'a>>
 fn plain_check<'a>(module_name: &'a str) -> Option<Command<'a>>
     ensures { IfSome result (λ command. request_of command ≡ request (codes "check" ∷ module_name.entry.now ∷ [])) }
 {
-    if is_option(module_name) {
+    if !names_file(module_name) {
         return None;
     }
     check_is_asked();
@@ -49,7 +49,7 @@ fn plain_check<'a>(module_name: &'a str) -> Option<Command<'a>>
 fn plain_seq<'a>(module_name: &'a str, script_name: &'a str) -> Option<Command<'a>>
     ensures { IfSome result (λ command. request_of command ≡ request (codes "seq" ∷ module_name.entry.now ∷ script_name.entry.now ∷ [])) }
 {
-    if is_option(module_name) || is_option(script_name) {
+    if !names_file(module_name) || !names_file(script_name) {
         return None;
     }
     seq_is_asked();
@@ -71,7 +71,7 @@ fn plain_outcomes<'a>(
     ensures { IfSome result (λ command. request_of command
         ≡ request (codes "outcomes" ∷ module_name.entry.now ∷ script_name.entry.now ∷ codes "-n" ∷ count.now ∷ [])) }
 {
-    if is_option(module_name) || is_option(script_name) {
+    if !names_file(module_name) || !names_file(script_name) {
         return None;
     }
     let processes = count_of(count)?;
@@ -95,7 +95,7 @@ fn plain_run<'a>(
     ensures { IfSome result (λ command. request_of command
         ≡ request (codes "run" ∷ module_name.entry.now ∷ script_name.entry.now ∷ schedule_name.entry.now ∷ codes "-n" ∷ count.now ∷ [])) }
 {
-    if is_option(module_name) || is_option(script_name) || is_option(schedule_name) {
+    if !names_file(module_name) || !names_file(script_name) || !names_file(schedule_name) {
         return None;
     }
     let processes = count_of(count)?;
@@ -120,14 +120,11 @@ fn calls_of<'a>(module_name: &'a str, script_name: &'a str, processes: usize) ->
     }
 }
 
-/// Whether a word is an option.
-fn is_option(word: &str) -> bool
-    ensures { result ≡ is_option word.now }
+/// Whether a word names a file: an option has a dash, and more behind it.
+fn names_file(word: &str) -> bool
+    ensures { result ≡ true → is_option word.now ≡ false }
 {
-    match word.as_bytes() {
-        [first, _, ..] => *first == b'-',
-        _ => false,
-    }
+    !matches!(word.as_bytes(), [b'-', _, ..])
 }
 
 /// A number of processes, written without anything that is not needed.

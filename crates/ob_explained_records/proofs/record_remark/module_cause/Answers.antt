@@ -5,7 +5,7 @@ use Rattle.ob_checked.specs.Exports.{signatures}
 use Rattle.ob_checked.specs.View.{table_of, variable_of}
 use Rattle.ob_explained_lines.specs.Causes.{cause_of, has_openings, head_words}
 use Rattle.ob_explained_records.proofs.VariableNames.{names_of}
-use Rattle.ob_explained_records.specs.FormRemarks.{IsPlacedCause, of_module, opened_at}
+use Rattle.ob_explained_records.specs.FormRemarks.{IsPlacedCause, of_module, of_none, opened_at}
 use Rattle.ob_typing.specs.Program.{Program}
 use Rattle.ob_explained_records.proofs.record_remark.module_cause.Goals as goal
 
@@ -25,3 +25,6 @@ returns-in_ok-openings-in-Ok c =
     (subst (λ name. IsPlacedCause name (record { text = c.args.object.now; exports = signatures program }) c.args.text.now c.args.number (option_map cause_of cause)) opened
     (rw c.exports.ensures at is)))
     c.placed_cause.ensures
+
+pub returns-in-Err : goal.returns-in-Err
+returns-in-Err c = IfOk-weaker c.no_cause.result _ _ (λ cause no. rw no.0 (of_none no.1)) c.no_cause.ensures

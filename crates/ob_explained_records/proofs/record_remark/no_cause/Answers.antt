@@ -1,6 +1,5 @@
-use Rattle.std.proofs.Common.{◌∙◌, sym}
-use Rattle.ob_explained_records.specs.FormRemarks.{of_none}
+use Rattle.std.proofs.Common.{◌∙◌, refl, sym}
 use Rattle.ob_explained_records.proofs.record_remark.no_cause.Goals as goal
 
 pub returns-else-is_memory : goal.returns-else-is_memory
-returns-else-is_memory c = of_none (c.requires.none (sym c.is_memory.ensures ∙ c.if-is_memory.false, c.requires.apart))
+returns-else-is_memory c = (refl, c.requires.none (sym c.is_memory.ensures ∙ c.if-is_memory.false, c.requires.apart))

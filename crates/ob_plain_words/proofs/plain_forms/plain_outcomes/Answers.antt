@@ -6,8 +6,8 @@ use Rattle.ob_plain_words.proofs.plain_forms.plain_outcomes.Goals as goal
 
 pub returns : goal.returns
 returns c =
-    let is_module = sym c.is_option.ensures ∙ c.if-is_option.false in
-    let is_script = sym c.is_option-else-is_option.ensures ∙ c.if-is_option-2.false in
+    let is_module = c.names_file.ensures c.if-not-names_file.false in
+    let is_script = c.names_file-else-not-names_file.ensures c.if-not-names_file-2.false in
     let is_count = c.in_ok-processes.ensures in
     ap (λ (calls : CallsRequest). Outcomes (record { calls = calls; always = None; whole = false; most = 1000000 })) c.calls_of-calls.ensures
     ∙ sym (c.outcomes_is_asked.ensures.runs c.in_ok-processes.processes c.args.module_name.now c.args.script_name.now (Count c.args.count.now ∷ [])

@@ -3,7 +3,7 @@ use Rattle.std.proofs.lemmas.Bool.{false≢true}
 use Rattle.ob_text_words.specs.Words.{Word}
 use Rattle.ob_explained_lines.specs.CallPlaces.{NamesNoCall}
 use Rattle.ob_explained_lines.proofs.Firsts.{none_at_all, none_more, stranger_found}
-use Rattle.ob_explained_lines.proofs.cause.first_stranger.Goals as goal
+use Rattle.ob_explained_lines.proofs.line_cause.first_stranger.Goals as goal
 
 pub returns-then-is_stranger-clause-place : goal.returns-then-is_stranger-clause-place
 returns-then-is_stranger-clause-place c =

@@ -1,5 +1,5 @@
 use Rattle.std.proofs.Common.{refl}
-use Rattle.ob_explained_lines.proofs.cause.is_stranger.Goals as goal
+use Rattle.ob_explained_lines.proofs.line_cause.is_stranger.Goals as goal
 
 pub returns-in-Some : goal.returns-in-Some
 returns-in-Some c = (λ t. absurd (cc), λ h. absurd (h c.in-Some._id c.in-Some.ensures))
