@@ -14,6 +14,7 @@ pub mod OneEnd
 mod Outcomes
 pub mod PlainWords
 pub mod Positions
+pub mod PrintedValues
 pub mod ReadBack
 pub mod ReadValues
 pub mod Records

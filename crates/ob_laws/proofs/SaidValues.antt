@@ -17,7 +17,7 @@ use Rattle.ob_text_reading.specs.Openings as Openings
 use Rattle.ob_text_reading.specs.Openings.{AreOpenings, IsOpening}
 use Rattle.ob_text_record.specs.Named.{named_elements, named_fields, named_text}
 use Rattle.ob_text_record.specs.Values.{elements_text, fields_text, separator, value_text}
-use Rattle.ob_text_values_reading.proofs.ReadBack.{printed}
+use Rattle.ob_laws.proofs.PrintedValues.{printed}
 use Rattle.ob_text_values_reading.specs.Printed.{AreSome, ArePrintable, ArePrintableFields, IsPrintable}
 use Rattle.ob_text_values_reading.specs.ValueTexts.{IsValueText, depth_of, depth_of_elements, depth_of_fields}
 use Rattle.ob_text_values_reading.specs.Variables as Variables

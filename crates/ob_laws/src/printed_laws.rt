@@ -1,5 +1,9 @@
-//! Laws of the records of runs from texts. What a function here ensures is proved; it does nothing.
+//! Laws of what is printed: of values, and of the records of runs from texts. What a function here ensures is proved; it does nothing.
 
+ghost use Rattle.ob_meaning.specs.ByNameValue.{Value};
+ghost use Rattle.ob_text_record.specs.Named.{named_text};
+ghost use Rattle.ob_text_values_reading.specs.Printed.{IsPrintable};
+ghost use Rattle.ob_text_values_reading.specs.ValueTexts.{IsValueText};
 ghost use Rattle.ob_object_compile.specs.Compilation.{IsAny, IsShort};
 ghost use Rattle.ob_laws.specs.Printed.{PerformedIsWritable, PrintedIsVerified, ServedIsVerified, ServedIsWritable};
 
@@ -42,3 +46,9 @@ pub fn served_is_verified()
     performed_is_writable();
     legal_is_verified();
 }
+
+/// What is printed of a value says it, and so it is read back, where it is no deeper than a value of a type.
+#[tactic(auto, using(crate::proofs::PrintedValues::printed))]
+pub fn printed_values_are_said()
+    ensures { (v : Value) → IsPrintable v → IsValueText (named_text v) v }
+{}

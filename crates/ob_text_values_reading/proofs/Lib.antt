@@ -7,7 +7,6 @@ pub mod Taken
 pub mod Indexing
 pub mod VariableLines
 pub mod Numerals
-pub mod ReadBack
 pub mod Fronts
 pub mod Ids
 pub mod IdsTaken

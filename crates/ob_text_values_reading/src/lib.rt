@@ -8,7 +8,7 @@ pub mod kind;
 pub mod laws;
 pub mod line_words;
 pub mod lines;
-pub mod number;
+pub mod said_number;
 pub mod splitting;
 pub mod taken_names;
 pub mod text_beginning;
