@@ -6,10 +6,10 @@
 pub mod always_explained;
 pub mod history_drawing;
 pub mod history_explained;
+mod listed_replies;
 pub mod order_answers;
 mod orders;
 pub mod outcome_fault;
 pub mod outcomes_answers;
-mod reply_lines;
 pub mod whole_answers;
 pub mod whole_outcome_lines;

@@ -7,7 +7,7 @@ ghost use Rattle.ob_checked.specs.View.{program_of};
 ghost use Rattle.ob_object_outcomes.specs.WholesView.{numbered, outcome_at, outcomes_in};
 ghost use Rattle.wf_whole_outcomes.specs.View.{wholes_in};
 
-use crate::reply_lines::{Source, end_texts, row_texts};
+use crate::listed_replies::{Source, end_texts, row_texts};
 use ob_checked::checked::Checked;
 use ob_interface::NoMemory;
 use ob_object_outcomes::{WholeOutcomes, push_order};

@@ -3,4 +3,4 @@
 #![tactic(auto)]
 
 #[cfg(test)]
-mod bodies;
+mod block_trials;

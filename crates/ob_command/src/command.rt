@@ -12,7 +12,7 @@ use crate::mistakes::{has_negative, loose_number, stop_of};
 use crate::requests::asked;
 use clap::ArgMatches;
 use ob_command_line::command_line::command_line;
-use ob_command_line::help::{asks_version, clap_words, extra_of_help, help_mistake};
+use ob_command_line::help_words::{asks_version, clap_words, extra_of_help, help_mistake};
 use std::alloc::{AllocError, Global};
 
 /// What the words ask for. The names are of files.

@@ -4,4 +4,4 @@
 pub mod arguments;
 pub mod command_line;
 pub mod command_words;
-pub mod help;
+pub mod help_words;

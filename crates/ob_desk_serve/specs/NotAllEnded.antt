@@ -7,7 +7,7 @@ use Rattle.ob_desk_serve.specs.WorkersGathered.{HaveWorked}
 use Rattle.ob_desk_serve.specs.Rounds.{Halts, HasWorked, Hears, Says}
 use Rattle.ob_desk_serve.specs.declared.worker.Ended.{Ended}
 use Rattle.ob_desk_serve.specs.declared.worker.Worked.{Worked}
-use Rattle.ob_desk_serve.specs.declared.closing.HandedBack.{HandedBack}
+use Rattle.ob_desk_serve.specs.declared.ended_workers.HandedBack.{HandedBack}
 use Rattle.ob_desk_serve.specs.declared.fault.ServeFault.{ServeFault}
 use Rattle.ob_desk_serve.specs.declared.fault.ServeFault.TheVariants as Faults
 

@@ -6,7 +6,7 @@
 
 mod answers;
 mod closed_record;
-mod closing;
+mod ended_workers;
 pub mod fault;
 pub mod gate;
 pub mod gathering;

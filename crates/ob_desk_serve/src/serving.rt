@@ -15,7 +15,7 @@ ghost use Rattle.ob_text_words.specs.ScriptCalls.{object_call, script_call_of};
 
 use crate::answers::first_lost;
 use crate::closed_record::record_of_machine;
-use crate::closing::{HandedBack, handed_back};
+use crate::ended_workers::{HandedBack, handed_back};
 use crate::fault::ServeFault;
 use crate::object_desk::opened_desk;
 use crate::{Gate, gather};

@@ -5,9 +5,9 @@ ghost use Rattle.std.specs.Io.{ReadsAtMost, WritesAtMost};
 ghost use Rattle.std.specs.Io.KnownBytes.{ReadConsumes, WriteAppends};
 ghost use Rattle.ob_device.specs.Devices.{CanCount};
 
+use crate::byte_source::Source;
 use crate::fault::Failed;
 use crate::sink::Sink;
-use crate::source::Source;
 use std::io;
 use std::io::{Read, Write};
 use std::marker::Model;

@@ -2,14 +2,14 @@
 //! nothing that is none.
 #![tactic(auto)]
 
+pub mod byte_source;
 pub mod counted;
 pub mod fault;
 pub mod sink;
-pub mod source;
 #[cfg(test)]
 mod tests;
 
+pub use byte_source::{Source, slurp};
 pub use counted::Counted;
 pub use fault::{Failed, IoFault};
 pub use sink::{Sink, emit};
-pub use source::{Source, slurp};

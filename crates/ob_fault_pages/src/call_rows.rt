@@ -230,9 +230,10 @@ begins with `#`; behind an item it is none.
       before them, as 0*3
   0:try
     labels have capitals
-    labels are written in capitals, as 0:TRY; they are NEXT, POST, FLIP, TRY,
-      LINK, LOAD, STORE, CHECK1, MINE, SEEN, FETCH, CHECK2, SAVE, ENTER, BODY,
-      UNDO, KEEP, COMMIT, READ, TAKE and GIVE
+    labels are written in capitals, as 0:TRY; did you mean `TRY`?
+  0:CHECK
+    it is `CHECK1` or `CHECK2`
+    behind : stands a label, with no blank before it; did you mean `CHECK1`?
   `0:`, `0: TRY`, `0:WAIT`
     no label, or a blank before it
     behind : stands a label, with no blank before it; they are NEXT, POST,
@@ -250,10 +251,7 @@ begins with `#`; behind an item it is none.
     the process stands first, and `*`, `:` or `!` behind it
     an item is a process with *STEPS, :LABEL or ! behind it, and no blanks
       between, as 0*3, 0:TRY or 0!
-  1234567890!
-    a process has one to nine digits
-    a process has one to nine digits
-  .. and 2 more, in docs/FAULTS.md
+  .. and 3 more, in docs/FAULTS.md
 
 The number behind `item` counts the schedule's items from 1. The first item at
 fault is told; but Q3 shows only while the items are played, so it is told

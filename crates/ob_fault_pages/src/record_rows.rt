@@ -89,7 +89,7 @@ or the order, and else the line's first word.
     the order is missing
     here a line is missing or empty: an event stands here (B, A, E), or behind
       all events the order, as O 0.1
-  .. and 20 more, in docs/FAULTS.md
+  .. and 22 more, in docs/FAULTS.md
 
 F1 of a history: no history has this line at this place, or the text ends
 before each variable has its I line. `order` and `explain MODULE --history
@@ -131,7 +131,7 @@ by the lines before it too:
     no value of the variable's type, or more
     behind I x stands an INTEGER, a number from -2147483648 to 2147483647, and
       no more
-  .. and 13 more, in docs/FAULTS.md
+  .. and 14 more, in docs/FAULTS.md
 
 Shown in its text by `obl0 explain a.mod --record record`, or `obl0 explain
 a.mod --history history`.

@@ -155,6 +155,9 @@ at the one just before it: where that is a name which the text has nowhere
 before and declares nowhere, and no word of another language, and one or two
 edits, as at C1, lead to a keyword with which, in its place, the text goes on
 with the token behind it. Of several such keywords it asks for the nearest.
+Where a `)` stands before the place, it asks so of the name with which the
+statement begins, also where that is a keyword in small letters: `if (x = 1)`
+is read as a call of `if`.
 
 A missing END is often told far below. So `explain` tells of a construct that
 is open there the line in which it begins. Open at a place is each MODULE,

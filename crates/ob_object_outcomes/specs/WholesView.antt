@@ -5,7 +5,7 @@ use Rattle.ob_interface.specs.Call.{Reply}
 use Rattle.ob_meaning.specs.ByPositionStore.{Activation}
 use Rattle.ob_object_outcomes.specs.declared.wholes.WholeOutcomes.{WholeOutcomes}
 use Rattle.ob_object_search.specs.Kept.{kept_in}
-use Rattle.ob_object_search.specs.declared.kept.KeptState.{KeptState}
+use Rattle.ob_object_search.specs.declared.kept_states.KeptState.{KeptState}
 use Rattle.ob_store.specs.View.{state_of}
 use Rattle.ob_store.specs.declared.state.State.{State}
 use Rattle.wf_history.specs.View.{kept_reply}

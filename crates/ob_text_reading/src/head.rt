@@ -6,7 +6,7 @@ ghost use Rattle.ob_text_reading.specs.RecordLines.{IsBudget, IsCount};
 use ob_interface::MOST_PROCESSES;
 use ob_mean::openings::MOST_TURNS;
 use ob_store::state::State;
-use ob_text_values_reading::number::read_only_number;
+use ob_text_values_reading::said_number::read_only_number;
 
 /// What the lines before the first event tell, and how many they are.
 #[derive(Drop)]

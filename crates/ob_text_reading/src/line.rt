@@ -17,7 +17,7 @@ use ob_interface::export::{Export, Formal};
 use ob_interface::scalar::Scalar;
 use ob_text_values_reading::id::{are_ids, read_ids};
 use ob_text_values_reading::line_words::next_word;
-use ob_text_values_reading::number::read_only_number;
+use ob_text_values_reading::said_number::read_only_number;
 use ob_text_values_reading::taken_names::take_id;
 use ob_text_words::export_names::export_named;
 use ob_text_words::parameter_words::read_values;

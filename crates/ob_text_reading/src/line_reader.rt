@@ -25,7 +25,7 @@ use ob_store::value::Value;
 use ob_text_values_reading::id::are_ids;
 use ob_text_values_reading::kind::{LineKind, Stage, kind_of};
 use ob_text_values_reading::line_words::next_word;
-use ob_text_values_reading::number::only_process;
+use ob_text_values_reading::said_number::only_process;
 use ob_text_values_reading::splitting::is_tail_line;
 use ob_text_values_reading::title::read_title;
 use ob_text_words::words::words_of;

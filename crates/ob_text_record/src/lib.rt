@@ -4,7 +4,7 @@
 //! One may rely on the clauses of `write_record`, `push_state`, `push_opening` and `write_state`. What is printed is a function of what is given alone.
 #![tactic(auto)]
 
-mod blocks;
+mod block_lines;
 mod events;
 pub mod laws;
 mod named_words;

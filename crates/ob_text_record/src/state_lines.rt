@@ -4,7 +4,7 @@ ghost use Rattle.std.specs.Prelude.{◌≡◌, ◌++◌, IfOk, OnErr, OnOk, stri
 ghost use Rattle.ob_text_record.specs.StateText.{over_each, process_at, sizes_text, state_text};
 ghost use Rattle.ob_text_words.specs.Appending.{GoesOn};
 
-use crate::blocks::{push_announcements, push_own_blocks, push_root};
+use crate::block_lines::{push_announcements, push_own_blocks, push_root};
 use crate::process_lines::push_process;
 use ob_text_words::numbers::push_count;
 use std::alloc::{AllocError, Global};

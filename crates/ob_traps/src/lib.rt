@@ -4,13 +4,13 @@
 //! `sites_in_turn` and `place_of`, which are in the words of `specs/`.
 #![tactic(auto)]
 
-mod bodies;
 pub mod call_site;
 mod expression_places;
 pub mod handed_places;
 pub mod opening_site;
 mod outside;
 pub mod places_laws;
+mod procedure_bodies;
 pub mod sequence;
 pub mod site;
 pub mod site_places;

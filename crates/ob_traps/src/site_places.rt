@@ -4,7 +4,7 @@ ghost use Rattle.std.specs.Prelude.{◌≡◌};
 ghost use Rattle.ob_grammar.specs.View.{module_of};
 ghost use Rattle.ob_traps.specs.Places.{places_in_module};
 
-use crate::bodies::body_at;
+use crate::procedure_bodies::body_at;
 use crate::statement_places::in_body;
 use ob_grammar::tree::ModuleTree;
 

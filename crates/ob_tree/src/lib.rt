@@ -6,7 +6,7 @@ pub mod body_run;
 pub mod body_start;
 mod effects;
 pub mod engine;
-pub mod frames;
+pub mod frame_places;
 pub mod procedure_work;
 pub mod reserve;
 pub mod settle;

@@ -12,7 +12,7 @@ ghost use Rattle.ob_tree_tasks.specs.Tasks.{task_of};
 ghost use Rattle.ob_tree_law.specs.Work as Work;
 
 use crate::body_run::TreeRun;
-use crate::frames::Frames;
+use crate::frame_places::Frames;
 use crate::procedure_work::push_procedure;
 use crate::settle::settle;
 use ob_checked::program::Program;

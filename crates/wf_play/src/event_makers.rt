@@ -9,7 +9,7 @@ ghost use Rattle.wf_table.specs.Object.{step_of};
 ghost use Rattle.wf_table.specs.Runs.{run, turns};
 ghost use Rattle.wf_table.specs.Schedule.{steps_of};
 
-use crate::item::step_once;
+use crate::played_item::step_once;
 use crate::playing::{PlayFault, submit_all};
 use ob_interface::NoMemory;
 use ob_text_words::script_call::ScriptCall;

@@ -5,8 +5,8 @@
 
 pub mod ended;
 pub mod event_makers;
-mod item;
 pub mod laws;
+mod played_item;
 pub mod playing;
 
 pub use ended::{EndedCall, ended_calls};

@@ -10,7 +10,7 @@ ghost use Rattle.wf_play.specs.declared.playing.PlayFault.TheVariants as Faults;
 ghost use Rattle.wf_table.specs.Runs.{run, submissions};
 ghost use Rattle.wf_table.specs.Start.{sizes_of};
 
-use crate::item::play_item;
+use crate::played_item::play_item;
 use ob_interface::NoMemory;
 use ob_interface::call::Call;
 use ob_text_words::Item;

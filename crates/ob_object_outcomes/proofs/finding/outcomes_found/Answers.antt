@@ -4,7 +4,7 @@ use Rattle.ob_checked.specs.CheckedModule.{program_in}
 use Rattle.ob_object_run.specs.LegalOrder.{CallEnds}
 use Rattle.ob_meaning.specs.ByPositionStore.{Activation}
 use Rattle.ob_object_search.specs.Kept.{kept_in}
-use Rattle.ob_object_search.specs.declared.kept.KeptState.{KeptState}
+use Rattle.ob_object_search.specs.declared.kept_states.KeptState.{KeptState}
 use Rattle.ob_store.specs.View.{state_of}
 use Rattle.wf_outcomes.specs.Explored.{calls_in}
 use Rattle.wf_outcomes.specs.OutcomeOrders.{AreOutcomes, End, IsItself}

@@ -1,0 +1,12 @@
+use Rattle.std.proofs.Common.{◌≡◌, ◌∙◌, ◌+◌, ◌++◌, ap, arith, of_z, string_bytes, to_z, to_z-of_z, w64}
+use Rattle.std.specs.Prelude.{ℤ}
+use Rattle.ll_cell.specs.Cell.{block_of, word_at}
+use Rattle.ob_text_record.specs.StateText.{word_text}
+use Rattle.ob_text_record.proofs.Each.{one_more}
+use Rattle.ob_text_record.proofs.block_lines.push_block_words.Goals as goal
+
+pub loop-i-preserved : goal.loop-i-preserved
+loop-i-preserved c =
+    let same : to_z w64 (of_z w64 c.read_word.result) ≡ c.read_word.result = search (arith, to_z-of_z) in
+    one_more (λ k. word_text (word_at (block_of c.args.shared.now.cell c.args.block) (c.args.first + k))) c.loop-i.i _ _ _ c.loop-i.invariant
+    (c.in_ok-push_word.ensures.ok ∙ ap (λ (w : ℤ). string_bytes c.loop-i.text ++ word_text w) (same ∙ c.read_word.ensures))

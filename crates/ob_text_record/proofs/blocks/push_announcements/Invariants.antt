@@ -1,7 +1,0 @@
--- The lines so far.
-use Rattle.std.proofs.Common.{◌≡◌, ◌++◌, string_bytes}
-use Rattle.ob_text_record.specs.StateText.{over_each, announced_line}
-use Rattle.ob_text_record.proofs.blocks.push_announcements.Given as goal
-
-abbrev pub invariant-loop-p : goal.invariant-loop-p
-invariant-loop-p l = string_bytes l.text ≡ string_bytes l.fn.text ++ over_each (announced_line l.z l.shared.cell) l.p
