@@ -248,6 +248,10 @@ impl<'a> Object for ModuleObject<'a> {
         }
     }
 
+    fn copy(&self, alloc: Global, state: &KeptState) -> Result<KeptState, NoMemory> {
+        state.copy(alloc)
+    }
+
     fn words(&self, alloc: Global, state: &KeptState) -> Result<Words, NoMemory> {
         state.words(alloc)
     }

@@ -71,6 +71,18 @@ impl KeptState {
         }
     }
 
+    /// The same, a copy.
+    pub(crate) fn copy(&self, alloc: Global) -> Result<KeptState, NoMemory>
+        ensures { IfOk result (λ same. kept_in same ≡ kept_in self.now) }
+    {
+        match self {
+            KeptState::Scalars(scalars) => {
+                Ok(KeptState::Scalars(SmallVec::from_slice(alloc, scalars.as_slice())?))
+            }
+            KeptState::Values(values) => Ok(KeptState::Values(copy_all(alloc, values.as_slice())?)),
+        }
+    }
+
     /// Its words.
     pub(crate) fn words(&self, alloc: Global) -> Result<Words, NoMemory>
         ensures { IfOk result (λ words. words.items ≡ words_of (kept_in self.now)) }

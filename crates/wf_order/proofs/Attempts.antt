@@ -12,7 +12,7 @@ use Rattle.wf_order.specs.Rules.{AreBehind, AreIdle}
 use Rattle.wf_order.specs.Search.{AreAllAnswered, AreAnswered, AreCovered, HasNoStep, IsAttempt, IsOnlyStep}
 use Rattle.wf_order.specs.Steps.{Configuration, IsLimit, IsStep}
 use Rattle.wf_order.specs.Turns.{IsFirstTurn, turns}
-use Rattle.wf_order.proofs.Turning.{fewer_left, next_is, none_left, of_turn}
+use Rattle.wf_order.proofs.Turning.{fewer_left, next_is, none_left, of_turn, turns_fewer}
 
 module _ {M : Type 0} (Effect : ObjectCall → M → M → Reply → Type 0) (history : List (Event ObjectCall Reply)) (found : List (Configuration M)) (c : Configuration M) (process : ℕ) where
   pub none_answered : HasNoStep Effect history c process → AreAnswered Effect history found c process
@@ -28,6 +28,23 @@ module _ {M : Type 0} (Effect : ObjectCall → M → M → Reply → Type 0) (hi
     (limit : ℕ) (bound : IsLimit history c.counts limit) (from : ℕ) where
   pub covered_none : AreCovered Effect history found c from from
   covered_none id d call begun at le lt s = absurd (omega (arith, le, lt))
+
+  -- what is all answered is covered up to any place
+  pub covered_all : (to : ℕ) → AreAllAnswered Effect history found c from → AreCovered Effect history found c from to
+  covered_all to all id d call begun at le lt s = all id d s (record { call = call; place = begun; at = at; behind = le })
+
+  -- an attempt covers more, where what begins up to a later place is covered
+  pub attempt_later : (next later : ℕ) (id : CallId) (d : Configuration M) → IsAttempt Effect history rows found c from next id d → next ≤ later → AreCovered Effect history found c next later →
+      IsAttempt Effect history rows found c from later id d
+  attempt_later next later id d a le more = record {
+    step = a.step;
+    fewer = let few = a.fewer in let less = turns_fewer next later (begun_rows rows) c.counts le in omega (arith, few, less);
+    covers = λ other e call begun at low lt s.
+        elim (cases_lt begun next) [
+          | inl before ↦ a.covers other e call begun at low before s
+          | inr behind ↦ inl (more other e call begun at behind lt s)
+        ];
+  }
 
   module _ (start : ℕ) (covered : AreCovered Effect history found c from start) where
     -- where there is no turn behind the limit

@@ -19,6 +19,7 @@ pub mod OpenCalls
 pub mod Places
 mod Placing
 pub mod Replacing
+pub mod Remembering
 mod Replaying
 mod Rounds
 pub mod Rowing

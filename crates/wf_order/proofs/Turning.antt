@@ -12,10 +12,11 @@ use Rattle.wf_history.proofs.Once.{one_begin}
 use Rattle.wf_history.proofs.Positions.{place_of, one_item, same_call}
 use Rattle.wf_order.specs.declared.rows.Begun.{Begun}
 use Rattle.wf_order.specs.declared.rows.Rows.{Rows}
+use Rattle.wf_order.specs.declared.next_call.Next.{Next}
 use Rattle.wf_order.specs.declared.next_call.Turn.{Turn}
 use Rattle.wf_order.specs.Rows.{AreRows, begun_rows, call_at, row_of}
 use Rattle.wf_order.specs.Steps.{Configuration, IsLimit, IsStep}
-use Rattle.wf_order.specs.Turns.{AreTurns, BeginsFrom, IsFirstIn, IsFirstTurn, IsNext, one_from, turns}
+use Rattle.wf_order.specs.Turns.{AreTurns, BeginsFrom, IsFirstIn, IsFirstTurn, IsNext, IsNextOf, one_from, turns}
 use Rattle.wf_order.proofs.Limits.{limit_later}
 
 one_at_most : (from : ℕ) (next : Option Begun) → one_from from next ≤ 1
@@ -38,7 +39,7 @@ turns_all from [] counts = omega arith
 turns_all from (row ∷ rows) [] = let a = one_at_most from (slice_get row 0) in let r = turns_all from rows [] in omega (arith, a, r)
 turns_all from (row ∷ rows) (count ∷ counts) = let a = one_at_most from (slice_get row count) in let r = turns_all from rows counts in omega (arith, a, r)
 
-turns_fewer : (from to : ℕ) (rows : List (List Begun)) (counts : List ℕ) → from ≤ to → turns to rows counts ≤ turns from rows counts
+pub turns_fewer : (from to : ℕ) (rows : List (List Begun)) (counts : List ℕ) → from ≤ to → turns to rows counts ≤ turns from rows counts
 turns_fewer from to [] counts le = omega arith
 turns_fewer from to (row ∷ rows) [] le = let a = one_fewer from to (slice_get row 0) le in let r = turns_fewer from to rows [] le in omega (arith, a, r)
 turns_fewer from to (row ∷ rows) (count ∷ counts) le = let a = one_fewer from to (slice_get row count) le in let r = turns_fewer from to rows counts le in omega (arith, a, r)
@@ -151,6 +152,14 @@ pub first_here : (rows : Rows) (counts named : List ℕ) → counts ≡ named �
     AreTurns rows counts (length counts) low limit turns → low ≤ from → IsFirstIn given from limit turn → IsFirstTurn rows named from limit turn
 first_here rows counts named same low from limit turns given is turn are le first =
     subst (λ (l : List ℕ). IsFirstTurn rows l from limit turn) same (first_of rows counts low from limit turns turn are le (subst (λ (l : List Turn). IsFirstIn l from limit turn) is first))
+
+-- where a next call begins, as its turn has it
+pub next_begins : (rows : Rows) (counts named : List ℕ) → named ≡ counts → (turn : Turn) (next : Next) → next.process ≡ turn.process → IsNextOf rows named next → (b : Begun) → IsNext rows counts turn.process b → b.place ≡ turn.place →
+    next.begun.place ≡ turn.place
+next_begins rows counts named same turn next own is b at place =
+    let row = λ (l : List ℕ) (q : ℕ). slice_get (row_of (begun_rows rows) q) (get_or l q 0) in
+    let there : Some next.begun ≡ Some b = sym is.begun ∙ ap (λ (l : List ℕ). row l next.process) same ∙ ap (row counts) own ∙ at in
+    ap (λ (x : Begun). x.place) (same_Some next.begun b there) ∙ place
 
 same_begin : (a b : CallId) (x y : ObjectCall) → ◌≡◌ {A = Event ObjectCall Reply} (Begin a x) (Begin b y) → a ≡ b
 same_begin a b x y e = cc

@@ -1,6 +1,7 @@
 pub mod Beginnings
 pub mod Fronts
 pub mod Listed
+pub mod MadeCalls
 pub mod Needed
 pub mod Rows
 pub mod Rules

@@ -1,5 +1,5 @@
 -- What a search has found so far.
-use Rattle.std.specs.Prelude.{◌≡◌, ℕ, zero, suc, ◌+◌, ◌-◌, ◌*◌, ◌<◌, ◌≤◌, List, [], ◌∷◌, ◌++◌, map, length, get_or, slice_get, Option, Some, None, Bool, true, false, IfSome, Contains, ◌⊎◌}
+use Rattle.std.specs.Prelude.{◌≡◌, ℕ, zero, suc, ◌+◌, ◌-◌, ◌*◌, ◌<◌, ◌≤◌, List, [], ◌∷◌, ◌++◌, map, length, get_or, slice_get, Option, Some, None, Bool, true, false, Contains, ◌⊎◌}
 use Rattle.std.proofs.Common.{take}
 use Rattle.wf_history.specs.declared.event.CallId.{CallId}
 use Rattle.ob_interface.specs.Call.{ObjectCall, Reply}
@@ -11,12 +11,10 @@ use Rattle.std.specs.HashSet.{HashSet}
 use Rattle.wf_order.specs.declared.search.Answer.{Answer}
 use Rattle.wf_order.specs.declared.search.Answer.TheVariants as Answers
 use Rattle.wf_order.specs.declared.search.Frame.{Frame}
-use Rattle.wf_order.specs.declared.step.Heard.{Heard}
 use Rattle.wf_order.specs.declared.step.Here.{Here}
 use Rattle.wf_order.specs.declared.step.Made.{Made}
 use Rattle.wf_order.specs.declared.step.Silent.{Silent}
 use Rattle.wf_order.specs.declared.step.Silent.TheVariants as Silents
-use Rattle.wf_order.specs.declared.step.Told.{Told}
 use Rattle.wf_order.specs.declared.rows.Begun.{Begun}
 use Rattle.wf_order.specs.declared.rows.Ended.{Ended}
 use Rattle.wf_order.specs.declared.rows.Rows.{Rows}
@@ -61,25 +59,10 @@ ids_of frames = map (λ f. f.id) frames
 abbrev pub IsMade : {State Meaning : Type 0} → (State → Meaning) → (ObjectCall → Meaning → Meaning → Reply → Type 0) → Meaning → Made State → Type 0
 IsMade meaning Effect before made = Effect (seen_call made.call) before (meaning made.state) (reply_of made.reply)
 
--- the call, made on the state, replies so
-abbrev pub IsTold : {M : Type 0} → (ObjectCall → M → M → Reply → Type 0) → M → Told → Type 0
-IsTold {M} Effect before told = (after : M) × Effect (seen_call told.call) before after (reply_of told.reply)
-
--- the configuration at this place of those that were found is one in which the call replies so
-pub record IsHeardAt {State M S : Type 0} (meaning : State → M) (Effect : ObjectCall → M → M → Reply → Type 0) (seen : HashSet (Rust.Found State) S) (heard : Heard) : Type 0 where
-  pub found : Rust.Found State
-  pub at : slice_get seen.keys heard.place ≡ Some found
-  pub told : IsTold Effect (meaning found.state) heard.told
-
--- what one call replies on the state is told, where no silent one may be taken
-abbrev pub IsNever : {M S : Type 0} → (ObjectCall → M → M → Reply → Type 0) → M → Silent S → Type 0
-IsNever Effect before (Silents.Step process state) = Unit {0}
-IsNever Effect before (Silents.Never told) = IfSome told (IsTold Effect before)
-
 -- a silent call that may be taken is of one of so many processes
 abbrev pub IsOfFirst : {S : Type 0} → ℕ → Silent S → Type 0
 IsOfFirst processes (Silents.Step process state) = process < processes
-IsOfFirst processes (Silents.Never told) = Unit {0}
+IsOfFirst processes Silents.Never = Unit {0}
 
 -- the next call of the process, with its end, may be taken
 pub record MayBeTaken (rows : Rows) (counts : List ℕ) (limit process : ℕ) (begun : Begun) (ended : Ended) : Type 0 where
@@ -117,7 +100,7 @@ module _ {State Call Reply : Type 0} (Effect : Call → State → State → Repl
   -- a silent call is next, and leads where it is told
   abbrev pub IsSilentFound : {S : Type 0} → (S → State) → Configuration State → Silent S → Type 0
   IsSilentFound meaning c (Silents.Step process state) = IsSilentNext c process (meaning state)
-  IsSilentFound meaning c (Silents.Never told) = Unit {0}
+  IsSilentFound meaning c Silents.Never = Unit {0}
 
   -- each step by a call of the process was tried, or need not be
   abbrev pub AreAnswered : List (Configuration State) → Configuration State → ℕ → Type 0

@@ -1,20 +1,21 @@
 //! What is tried next from a configuration.
 
-ghost use Rattle.std.specs.Prelude.{◌≡◌, ◌<◌, ℕ, List, length, IfOk, IfSome, IsTrue, MatchOption, OnOk};
+ghost use Rattle.std.specs.Prelude.{◌≡◌, ◌<◌, ◌≤◌, ◌+◌, ℕ, List, length, IfOk, IfSome, IsTrue, MatchOption, OnOk};
 ghost use Rattle.ob_interface.specs.Call.{ObjectCall, Reply};
 ghost use Rattle.wf_history.specs.History.{Event};
+ghost use Rattle.wf_order.specs.MadeCalls.{AreMade};
 ghost use Rattle.wf_order.specs.Rules.{AreIdle};
-ghost use Rattle.wf_order.specs.Search.{found_in, AreAllAnswered, AreAnswered, HasNoStep, IsAt, IsChoice, IsNextStep, IsTold, IsTry};
+ghost use Rattle.wf_order.specs.Search.{found_in, AreAllAnswered, AreAnswered, AreCovered, HasNoStep, IsAt, IsChoice, IsNextStep, IsTry, IsWorded};
 ghost use Rattle.wf_order.specs.Steps.{Configuration};
-ghost use Rattle.wf_order.specs.Turns.{IsNextOf};
+ghost use Rattle.wf_order.specs.Turns.{AreTurns, IsNextOf};
 
 use crate::behind::is_behind;
-use crate::compared_replies::{is_same_call, is_same_reply};
-use crate::next_call::{Next, first_turn, next_of, turns_from};
-use crate::passing::replies_so;
+use crate::made_calls::{MadeCalls, replies_otherwise, replies_so};
+use crate::next_call::{Next, Turn, first_turn, next_of, turns_from};
 use crate::searched_object::Object;
 use crate::seen::Seen;
-use crate::step::{Here, Silent, Task, Told, any_silent_step, step_by};
+use crate::sooner::{Spot, is_sooner};
+use crate::step::{Here, Silent, Task, any_silent_step, step_by};
 use crate::without::unless_left_out;
 use ob_interface::NoMemory;
 use wf_history::SeenReply;
@@ -27,52 +28,32 @@ pub(crate) struct Attempt<S> {
     pub state: S,
 }
 
-/// Notes what a next call replies here, where it is silent and that is not noted already.
-fn note_told<'a, O: Object>(
+/// Whether a next call that is silent has another reply here than in the history.
+fn is_unfit<'a, O: Object>(
     task: &Task<'_, 'a, O>,
     here: &Here<O::State>,
     next: &Next<'a>,
-    told: &mut Option<Told<'a>>,
-) -> Result<(), NoMemory>
-    requires { IfSome told.old (IsTold (O.effect task.now.object.now) (O.meaning here.now.found.now.state)) }
-    ensures { OnOk result (IfSome told.new (IsTold (O.effect task.now.object.now) (O.meaning here.now.found.now.state))) }
+    calls: &mut MadeCalls<'a, O::State>,
+) -> Result<bool, NoMemory>
+    requires next { IsNextOf task.now.rows.now here.now.found.now.counts.items next.now }
+    requires worded { IsWorded O.meaning O.words_of here.now.found.now }
+    requires made { AreMade O.meaning O.words_of (O.effect task.now.object.now) calls.old }
+    ensures made { OnOk result (AreMade O.meaning O.words_of (O.effect task.now.object.now) calls.new) }
+    ensures unfit { (history : List (Event ObjectCall Reply)) → IsAt history task.now.rows.now here.now
+        → IfOk result (λ unfit. IsTrue unfit → HasNoStep (O.effect task.now.object.now) history (found_in O.meaning here.now.found.now) next.now.process) }
 {
     let Some(end) = next.ended else {
-        return Ok(());
+        return Ok(false);
     };
     let call = next.begun.call;
     if !task.object.is_silent(call, end.reply) {
-        return Ok(());
+        return Ok(false);
     }
-    let _fits = replies_so(task, &here.found.state, call, end.reply, told)?;
-    Ok(())
-}
-
-/// Whether a next call is known to have another reply here than in the history.
-fn is_unfit<O: Object>(
-    task: &Task<O>,
-    here: &Here<O::State>,
-    next: &Next,
-    told: &Option<Told>,
-) -> bool
-    requires { IsNextOf task.now.rows.now here.now.found.now.counts.items next.now }
-    ensures { (history : List (Event ObjectCall Reply)) → IsAt history task.now.rows.now here.now
-        → IfSome told.now (IsTold (O.effect task.now.object.now) (O.meaning here.now.found.now.state))
-        → IsTrue result → HasNoStep (O.effect task.now.object.now) history (found_in O.meaning here.now.found.now) next.now.process }
-{
-    let Some(told) = told else {
-        return false;
-    };
-    let Some(end) = next.ended else {
-        return false;
-    };
-    if !is_same_call(told.call, next.begun.call) {
-        return false;
+    let so = replies_so(task, here.found, call, end.reply, calls)?;
+    if so {
+        return Ok(false);
     }
-    if is_same_reply(&told.reply, end.reply) {
-        return false;
-    }
-    true
+    Ok(true)
 }
 
 /// Whether a next call never ends, and leaves each state as it is.
@@ -100,20 +81,22 @@ fn ends_with_values(next: &Next) -> bool {
 
 /// The state that a next call leads to, where it is to be tried. In a hard search, of which this was found, it looks closer
 /// at open calls.
-fn tried<O: Object>(
-    task: &Task<O>,
+fn tried<'a, O: Object>(
+    task: &Task<'_, 'a, O>,
     here: &Here<O::State>,
-    next: &Next,
-    told: &Option<Told>,
+    next: &Next<'a>,
+    calls: &mut MadeCalls<'a, O::State>,
     hard: Option<&Seen<O::State>>,
 ) -> Result<Option<O::State>, NoMemory>
-    requires { IsNextOf task.now.rows.now here.now.found.now.counts.items next.now }
-    ensures { (history : List (Event ObjectCall Reply)) (found : List (Configuration O.Meaning)) → IsAt history task.now.rows.now here.now
-        → IfSome told.now (IsTold (O.effect task.now.object.now) (O.meaning here.now.found.now.state))
+    requires next { IsNextOf task.now.rows.now here.now.found.now.counts.items next.now }
+    requires worded { IsWorded O.meaning O.words_of here.now.found.now }
+    requires made { AreMade O.meaning O.words_of (O.effect task.now.object.now) calls.old }
+    ensures made { OnOk result (AreMade O.meaning O.words_of (O.effect task.now.object.now) calls.new) }
+    ensures tried { (history : List (Event ObjectCall Reply)) (found : List (Configuration O.Meaning)) → IsAt history task.now.rows.now here.now
         → IfOk result (λ o. MatchOption o (AreAnswered (O.effect task.now.object.now) history found (found_in O.meaning here.now.found.now) next.now.process)
         (λ state. IsNextStep (O.effect task.now.object.now) history (found_in O.meaning here.now.found.now) next.now.process (O.meaning state))) }
 {
-    if is_unfit(task, here, next, told) {
+    if is_unfit(task, here, next, calls)? {
         return Ok(None);
     }
     if is_idle(task, here, next) {
@@ -122,15 +105,15 @@ fn tried<O: Object>(
     // Where its values mostly don't fit, no equal call is looked for before that is known.
     let fits_rarely = ends_with_values(next);
     if !fits_rarely {
-        if is_behind(task, here, next)? {
+        if is_behind(task, here, next, calls)? {
             return Ok(None);
         }
     }
-    let Some(state) = step_by(task, here, next)? else {
+    let Some(state) = step_by(task, here, next, calls)? else {
         return Ok(None);
     };
     if fits_rarely {
-        if is_behind(task, here, next)? {
+        if is_behind(task, here, next, calls)? {
             return Ok(None);
         }
     }
@@ -140,15 +123,85 @@ fn tried<O: Object>(
     }
 }
 
-/// What is tried next, of the calls that begin at a place or behind it, where it is known what one call replies here.
+/// Whether a next call need not be tried beside another one that is: it is equal and ends later, or is known to have another reply here.
+fn is_dropped<O: Object>(
+    task: &Task<O>,
+    here: &Here<O::State>,
+    tried: &Next,
+    next: &Next,
+    calls: &MadeCalls<O::State>,
+) -> bool
+    requires next { IsNextOf task.now.rows.now here.now.found.now.counts.items next.now }
+    requires worded { IsWorded O.meaning O.words_of here.now.found.now }
+    requires made { AreMade O.meaning O.words_of (O.effect task.now.object.now) calls.now }
+    ensures { (history : List (Event ObjectCall Reply)) (found : List (Configuration O.Meaning)) → IsAt history task.now.rows.now here.now → IsTrue result
+        → AreAnswered (O.effect task.now.object.now) history found (found_in O.meaning here.now.found.now) next.now.process }
+{
+    let Some(end) = next.ended else {
+        return false;
+    };
+    let process = tried.process;
+    let Some(count) = here.found.counts.get(process) else {
+        return false;
+    };
+    let place = *count as usize;
+    if is_sooner(
+        task.rows,
+        here.limit,
+        Spot { process, place },
+        next.begun,
+        end,
+    ) {
+        return true;
+    }
+    replies_otherwise(here.found, next.begun.call, end.reply, calls)
+}
+
+/// Where another call is tried: of the turns behind it, the place of the first one that is still to be tried then. Where there is none, the number of
+/// events.
+fn next_place<O: Object>(
+    task: &Task<O>,
+    here: &Here<O::State>,
+    turns: &[Turn],
+    tried: &Next,
+    calls: &MadeCalls<O::State>,
+) -> usize
+    requires turns { (low : ℕ) × (low ≤ tried.now.begun.place) × AreTurns task.now.rows.now here.now.found.now.counts.items (length here.now.found.now.counts.items) low here.now.limit turns.now }
+    requires early { tried.now.begun.place < here.now.limit }
+    requires worded { IsWorded O.meaning O.words_of here.now.found.now }
+    requires made { AreMade O.meaning O.words_of (O.effect task.now.object.now) calls.now }
+    ensures { (history : List (Event ObjectCall Reply)) (found : List (Configuration O.Meaning)) → IsAt history task.now.rows.now here.now
+        → AreCovered (O.effect task.now.object.now) history found (found_in O.meaning here.now.found.now) (tried.now.begun.place + 1) result × (tried.now.begun.place < result) }
+{
+    let limit = here.limit;
+    let mut start = tried.begun.place + 1;
+    while start < limit {
+        let turn = first_turn(turns, start, limit);
+        if turn.place >= limit {
+            return task.rows.events;
+        }
+        let Some(next) = next_of(task.rows, &here.found.counts, turn.process) else {
+            return start;
+        };
+        if !is_dropped(task, here, tried, &next, calls) {
+            return start;
+        }
+        start = turn.place + 1;
+    }
+    task.rows.events
+}
+
+/// What is tried next, of the calls that begin at a place or behind it.
 fn next_attempt<'a, O: Object>(
     task: &Task<'_, 'a, O>,
     here: &Here<O::State>,
     from: usize,
     hard: Option<&Seen<O::State>>,
-    known: Option<Told<'a>>,
+    calls: &mut MadeCalls<'a, O::State>,
 ) -> Result<Option<Attempt<O::State>>, NoMemory>
-    requires { IfSome known (IsTold (O.effect task.now.object.now) (O.meaning here.now.found.now.state)) }
+    requires worded { IsWorded O.meaning O.words_of here.now.found.now }
+    requires made { AreMade O.meaning O.words_of (O.effect task.now.object.now) calls.old }
+    ensures made { OnOk result (AreMade O.meaning O.words_of (O.effect task.now.object.now) calls.new) }
     ensures next { (history : List (Event ObjectCall Reply)) (found : List (Configuration O.Meaning)) → IsAt history task.now.rows.now here.now
         → IfOk result (λ o. MatchOption o (AreAllAnswered (O.effect task.now.object.now) history found (found_in O.meaning here.now.found.now) from)
         (λ a. IsTry (O.effect task.now.object.now) history task.now.rows.now found (found_in O.meaning here.now.found.now) from a.next a.process (O.meaning a.state))) }
@@ -156,7 +209,6 @@ fn next_attempt<'a, O: Object>(
 {
     let limit = here.limit;
     let turns = turns_from(task.alloc, task.rows, &here.found.counts, from, limit)?;
-    let mut told = known;
     let mut start = from;
     while start < limit {
         let turn = first_turn(turns.as_slice(), start, limit);
@@ -166,39 +218,39 @@ fn next_attempt<'a, O: Object>(
         let Some(call) = next_of(task.rows, &here.found.counts, turn.process) else {
             unreachable!()
         };
-        note_told(task, here, &call, &mut told)?;
-        let next = turn.place + 1;
-        match tried(task, here, &call, &told, hard)? {
+        match tried(task, here, &call, calls, hard)? {
             Some(state) => {
                 return Ok(Some(Attempt {
-                    next,
+                    next: next_place(task, here, turns.as_slice(), &call, calls),
                     process: turn.process,
                     state,
                 }));
             }
-            None => start = next,
+            None => start = turn.place + 1,
         }
     }
     Ok(None)
 }
 
 /// What is tried next from a configuration: at first a silent call, where one may be taken, and then nothing else; and else a call that
-/// begins at a place or behind it, where it is known what one call replies here.
+/// begins at a place or behind it.
 pub(crate) fn chosen<'a, O: Object>(
     task: &Task<'_, 'a, O>,
     here: &Here<O::State>,
     from: usize,
     hard: Option<&Seen<O::State>>,
-    known: Option<Told<'a>>,
+    calls: &mut MadeCalls<'a, O::State>,
 ) -> Result<Option<Attempt<O::State>>, NoMemory>
-    requires { IfSome known (IsTold (O.effect task.now.object.now) (O.meaning here.now.found.now.state)) }
+    requires worded { IsWorded O.meaning O.words_of here.now.found.now }
+    requires made { AreMade O.meaning O.words_of (O.effect task.now.object.now) calls.old }
+    ensures made { OnOk result (AreMade O.meaning O.words_of (O.effect task.now.object.now) calls.new) }
     ensures chosen { (history : List (Event ObjectCall Reply)) (found : List (Configuration O.Meaning)) → IsAt history task.now.rows.now here.now
         → IfOk result (λ o. MatchOption o (AreAllAnswered (O.effect task.now.object.now) history found (found_in O.meaning here.now.found.now) from)
         (λ a. IsChoice (O.effect task.now.object.now) history task.now.rows.now found (found_in O.meaning here.now.found.now) from here.now.limit a.next a.process (O.meaning a.state))) }
     ensures within { IfOk result (λ o. IfSome o (λ a. a.process < length here.now.found.now.counts.items)) }
 {
     if from > 0 {
-        return next_attempt(task, here, from, hard, known);
+        return next_attempt(task, here, from, hard, calls);
     }
     match any_silent_step(task, here)? {
         Silent::Step(process, state) => Ok(Some(Attempt {
@@ -206,7 +258,6 @@ pub(crate) fn chosen<'a, O: Object>(
             process,
             state,
         })),
-        Silent::Never(None) => next_attempt(task, here, from, hard, known),
-        Silent::Never(told) => next_attempt(task, here, from, hard, told),
+        Silent::Never => next_attempt(task, here, from, hard, calls),
     }
 }

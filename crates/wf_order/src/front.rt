@@ -9,6 +9,7 @@ ghost use Rattle.wf_order.specs.Search.{all_counts, all_found, AreWorded, IsGrow
 ghost use Rattle.wf_order.specs.Fronts.{AreFramed, AreSized, EndsBefore, IsFarthest, IsFound};
 ghost use Rattle.wf_order.specs.Steps.{start_at};
 
+use crate::made_calls::no_calls;
 use crate::rows::{Rows, limit_of};
 use crate::search::{Frame, advance};
 use crate::searched_object::Object;
@@ -100,12 +101,12 @@ pub(crate) fn go_on<O: Object>(
     ensures found { IfOk result (IsFound (O.effect task.now.object.now) (O.opening task.now.object.now) (map event_of task.now.events.now)) }
     ensures grown { IfOk result (λ front. IsGrown seen.old.keys seen.new.keys) }
 {
-    let mut heard = None;
+    let mut calls = no_calls(task.alloc)?;
     while let Some(frame) = stack.pop() {
         if seen.len() > most {
             return Ok(Front::Unknown);
         }
-        if let Some(_order) = advance(task, seen, &mut stack, frame, &mut heard)? {
+        if let Some(_order) = advance(task, seen, &mut stack, frame, &mut calls)? {
             return Ok(Front::Legal);
         }
     }

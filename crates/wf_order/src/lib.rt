@@ -16,6 +16,7 @@ pub mod find;
 mod front;
 pub mod keys;
 mod listed_calls;
+mod made_calls;
 pub mod needed;
 mod next_call;
 pub mod opened;

@@ -44,7 +44,7 @@ pub(crate) fn turns_from(
     counts: &[u32],
     from: usize,
     limit: usize,
-) -> Result<SmallVec<Turn, 16>, NoMemory>
+) -> Result<SmallVec<Turn, 8>, NoMemory>
     ensures { IfOk result (λ turns. AreTurns rows.now counts.now (length counts.now) from limit turns.items) }
 {
     let mut turns = SmallVec::new(alloc);

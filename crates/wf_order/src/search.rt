@@ -1,22 +1,25 @@
 //! The search of one history.
 
-ghost use Rattle.std.specs.Prelude.{◌≡◌, Bool, ◌<◌, ◌≤◌, ◌+◌, ◌++◌, ◌∷◌, ℕ, List, [], map, length, replicate, IfOk, IfSome, MatchOption, IsTrue, Some, option_map, slice_get, vec_len};
+ghost use Rattle.std.specs.Prelude.{◌≡◌, Bool, ◌<◌, ◌≤◌, ◌+◌, ◌++◌, ◌∷◌, ℕ, List, [], map, length, replicate};
+ghost use Rattle.std.specs.Prelude.{IfOk, OnOk, MatchOption, IsTrue, option_map, vec_len};
 ghost use Rattle.indexmap.specs.IndexSet.{index_set_len};
 ghost use Rattle.ob_interface.specs.Call.{ObjectCall, Reply};
 ghost use Rattle.wf_history.specs.declared.event.CallId.{CallId};
 ghost use Rattle.wf_history.specs.History.{Event};
 ghost use Rattle.wf_history.specs.View.{event_of};
 ghost use Rattle.wf_order.specs.declared.search.Answer.TheVariants as Answers;
+ghost use Rattle.wf_order.specs.MadeCalls.{AreMade};
 ghost use Rattle.wf_order.specs.Rows.{AreRows};
-ghost use Rattle.wf_order.specs.Search.{found_in, all_found, ids_of, AreWorded, IsWorded, IsArrival, IsGrown, IsHeardAt, IsSearch, IsAnswer, IsWholeSearch, IsLed, work};
+ghost use Rattle.wf_order.specs.Search.{found_in, all_found, ids_of, AreWorded, IsWorded, IsArrival, IsGrown, IsSearch, IsAnswer, IsWholeSearch, IsLed, work};
 ghost use Rattle.wf_order.specs.Steps.{Configuration, IsDone, IsLimit, start_at};
 
 use crate::attempt::{Attempt, chosen};
+use crate::made_calls::{MadeCalls, no_calls};
 use crate::passing::passed;
 use crate::rows::{limit_of, next_limit};
 use crate::searched_object::Object;
 use crate::seen::{Found, Seen};
-use crate::step::{Heard, Here, Task, Told, one_more};
+use crate::step::{Here, Task, one_more};
 use ob_interface::NoMemory;
 use smallvec::SmallVec;
 use std::alloc::Global;
@@ -72,7 +75,6 @@ fn arrive<O: Object>(
     ensures worded { IfOk result (λ to. AreWorded O.meaning O.words_of seen.new) }
     ensures one_more { IfOk result (λ to. index_set_len seen.new ≤ index_set_len seen.old + 1) }
     ensures grown { IfOk result (λ to. IsGrown seen.old.keys seen.new.keys) }
-    ensures last { IfOk result (λ to. index_set_len seen.old < index_set_len seen.new → slice_get seen.new.keys (index_set_len seen.old) ≡ Some there) }
 {
     if limit >= task.rows.events {
         return Ok(Some(path_of(task.alloc, stack)?));
@@ -91,44 +93,18 @@ fn arrive<O: Object>(
     Ok(None)
 }
 
-/// What is told of the configuration at a place, if what was heard is of that one.
-fn told_at<'a>(heard: Option<Heard<'a>>, place: usize) -> Option<Told<'a>>
-    ensures { IfSome result (λ told. heard.entry ≡ Some (record { place = place; told = told })) }
-{
-    let Some(heard) = heard else {
-        return None;
-    };
-    if heard.place != place {
-        return None;
-    }
-    Some(heard.told)
-}
-
-/// What is told, as it is heard of the configuration at a place, where so many are found that there is one.
-fn heard_at<'a>(told: Option<Told<'a>>, place: usize, found: usize) -> Option<Heard<'a>>
-    ensures { IfSome result (λ h. (place < found) × (h.place ≡ place) × (told.entry ≡ Some h.told)) }
-{
-    let Some(told) = told else {
-        return None;
-    };
-    if place >= found {
-        return None;
-    }
-    Some(Heard { place, told })
-}
-
-/// Tries a silent call or else the next call of the frame that was on top of the stack: a legal order, if one is found. What was heard last
-/// mostly is of the configuration from which the search goes on next.
+/// Tries a silent call or else the next call of the frame that was on top of the stack: a legal order, if one is found.
 pub(crate) fn advance<'a, O: Object>(
     task: &Task<'_, 'a, O>,
     seen: &mut Seen<O::State>,
     stack: &mut Vec<Frame>,
     frame: Frame,
-    heard: &mut Option<Heard<'a>>,
+    calls: &mut MadeCalls<'a, O::State>,
 ) -> Result<Option<Vec<CallId>>, NoMemory>
     requires place { frame.place < index_set_len seen.old }
     requires worded { AreWorded O.meaning O.words_of seen.old }
-    requires heard { IfSome heard.old (IsHeardAt O.meaning (O.effect task.now.object.now) seen.old) }
+    requires made { AreMade O.meaning O.words_of (O.effect task.now.object.now) calls.old }
+    ensures made { OnOk result (AreMade O.meaning O.words_of (O.effect task.now.object.now) calls.new) }
     ensures search { (history : List (Event ObjectCall Reply)) (processes : ℕ) (exact : Bool) (start : Configuration O.Meaning) → AreRows history processes task.now.rows.now
         → IsSearch (O.effect task.now.object.now) history processes (IsLed (O.effect task.now.object.now) history exact start) start (all_found O.meaning seen.old) (stack.old.items ++ frame ∷ [])
         → IfOk result (λ to. MatchOption to
@@ -138,24 +114,19 @@ pub(crate) fn advance<'a, O: Object>(
     ensures worded { IfOk result (λ to. AreWorded O.meaning O.words_of seen.new) }
     ensures one_more { IfOk result (λ to. index_set_len seen.new ≤ index_set_len seen.old + 1) }
     ensures grown { IfOk result (λ to. IsGrown seen.old.keys seen.new.keys) }
-    ensures heard { IfOk result (λ to. IfSome heard.new (IsHeardAt O.meaning (O.effect task.now.object.now) seen.new)) }
 {
-    // The frame of a call that only reads, which was passed over.
+    // Nothing is left to be tried, as of the frame of a call that was passed over.
     if frame.next >= task.rows.events {
         return Ok(None);
     }
-    let place = frame.place;
-    let limit = frame.limit;
     let here = Here {
-        found: &seen[place],
-        limit,
-        last: frame.id.process,
+        found: &seen[frame.place],
+        limit: frame.limit,
     };
     // A search is hard where it has come back to a configuration, or has found more than two for each call on its way.
     let is_hard = frame.next > 0 || seen.len() / 2 > stack.len();
     let hard = is_hard.then_some(&*seen);
-    let known = told_at(heard.take(), place);
-    let Some(attempt) = chosen(task, &here, frame.next, hard, known)? else {
+    let Some(attempt) = chosen(task, &here, frame.next, hard, calls)? else {
         return Ok(None);
     };
     let Attempt {
@@ -164,17 +135,10 @@ pub(crate) fn advance<'a, O: Object>(
         state,
     } = attempt;
     let (id, mut there) = one_more(task, &here.found.counts, process, state)?;
-    stack.push(Frame {
-        place,
-        next,
-        id,
-        limit,
-    })?;
-    let limit = next_limit(task.rows, &there.counts, id, limit);
-    let (limit, told) = passed(task, stack, place, &mut there, limit)?;
-    let place = seen.len();
+    stack.push(Frame { next, id, ..frame })?;
+    let limit = next_limit(task.rows, &there.counts, id, frame.limit);
+    let limit = passed(task, stack, Frame { limit, ..frame }, &mut there, calls)?;
     let arrived = arrive(task, seen, stack, there, limit)?;
-    *heard = heard_at(told, place, seen.len());
     Ok(arrived)
 }
 
@@ -215,12 +179,12 @@ pub(crate) fn search<O: Object>(
     if let Some(order) = arrive(task, seen, &mut stack, start, limit)? {
         return Ok(Answer::Order(order));
     }
-    let mut heard = None;
+    let mut calls = no_calls(task.alloc)?;
     while let Some(frame) = stack.pop() {
         if seen.len() > most {
             return Ok(Answer::TooMany);
         }
-        if let Some(order) = advance(task, seen, &mut stack, frame, &mut heard)? {
+        if let Some(order) = advance(task, seen, &mut stack, frame, &mut calls)? {
             return Ok(Answer::Order(order));
         }
     }

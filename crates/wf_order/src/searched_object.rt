@@ -58,6 +58,10 @@ pub trait Object {
     ) -> Result<Option<Self::State>, NoMemory>
         ensures { IfOk result (λ to. IsOutcome (effect self.now (seen_call call.entry)) (meaning state.now) (option_map seen_reply known.entry) (option_map meaning to)) };
 
+    /// A copy of a state.
+    fn copy(&self, alloc: Global, state: &Self::State) -> Result<Self::State, NoMemory>
+        ensures { IfOk result (λ same. meaning same ≡ meaning state.now) };
+
     /// The state in words. No two states have the same ones.
     fn words(&self, alloc: Global, state: &Self::State) -> Result<Words, NoMemory>
         ensures { IfOk result (λ words. words.items ≡ words_of (meaning state.now)) };

@@ -56,7 +56,7 @@ pub(crate) fn are_alike(rows: &Rows, first: Spot, other: Spot) -> bool
 }
 
 /// Whether a call that may be taken before the limit can stand for one that has begun and ended so, and ends before it.
-fn is_sooner(rows: &Rows, limit: usize, first: Spot, begun: Begun, end: Ended) -> bool
+pub(crate) fn is_sooner(rows: &Rows, limit: usize, first: Spot, begun: Begun, end: Ended) -> bool
     ensures { (history : List (Event ObjectCall Reply)) (counts : List ℕ) (p k : ℕ) → AreRows history (length counts) rows.now → IsLimit history counts limit
         → AreAt rows.now p k begun.entry end.entry → first.process < length counts → first.place ≡ get_or counts first.process 0
         → IsTrue result → HasSooner history counts (call_at p k) }
@@ -93,12 +93,7 @@ pub(crate) fn has_sooner<S>(rows: &Rows, here: &Here<S>, next: &Next) -> bool
         return false;
     }
     let counts = here.found.counts.as_slice();
-    // That of the process whose call was tried last comes first: mostly it is the one.
-    for turn in 0..=counts.len() {
-        let process = turn.checked_sub(1).unwrap_or(here.last);
-        let Some(count) = counts.get(process) else {
-            continue;
-        };
+    for (process, count) in counts.iter().enumerate() {
         let place = *count as usize;
         let first = Spot { process, place };
         if is_sooner(rows, here.limit, first, next.begun, end) {

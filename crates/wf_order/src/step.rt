@@ -5,12 +5,14 @@ ghost use Rattle.smallvec.specs.SmallVec.{small_vec_len};
 ghost use Rattle.ob_interface.specs.Call.{ObjectCall, Reply};
 ghost use Rattle.wf_history.specs.History.{Event as AnyEvent};
 ghost use Rattle.wf_history.specs.View.{seen_call, seen_reply};
-ghost use Rattle.wf_order.specs.Search.{found_in, HasNoStep, IsNever, IsNextStep, IsOfFirst, IsSilentFound, IsMade, IsAt, IsWorded, MayBeTaken};
+ghost use Rattle.wf_order.specs.MadeCalls.{AreMade};
+ghost use Rattle.wf_order.specs.Search.{found_in, HasNoStep, IsNextStep, IsOfFirst, IsSilentFound, IsMade, IsAt, IsWorded, MayBeTaken};
 ghost use Rattle.wf_order.specs.Rows.{call_at};
 ghost use Rattle.wf_order.specs.Steps.{one_more};
 ghost use Rattle.wf_order.specs.Turns.{IsNextOf};
 
 use crate::compared_replies::{is_same_call, is_same_reply};
+use crate::made_calls::{MadeCalls, outcome};
 use crate::next_call::Next;
 use crate::quiet::Quiet;
 use crate::rows::{Begun, Ended, Rows};
@@ -31,13 +33,11 @@ pub(crate) struct Task<'r, 'a, O> {
     pub quiet: &'r Quiet,
 }
 
-/// A configuration, with the first place at which a call ends that is not taken there, and the process whose call was tried last: where
-/// others have an equal call, it mostly has the one that ends first.
+/// A configuration, with the first place at which a call ends that is not taken there.
 #[derive_where(Clone, Copy)]
 pub(crate) struct Here<'a, S> {
     pub found: &'a Found<S>,
     pub limit: usize,
-    pub last: usize,
 }
 
 /// What a call made of a state.
@@ -48,27 +48,13 @@ pub(crate) struct Made<'a, S> {
     pub reply: call::Reply,
 }
 
-/// A call, and what it replies.
-#[derive(Drop)]
-pub(crate) struct Told<'a> {
-    pub call: SeenCall<'a>,
-    pub reply: call::Reply,
-}
-
-/// What a call replies in the configuration at a place of those that were found.
-#[derive(Drop)]
-pub(crate) struct Heard<'a> {
-    pub place: usize,
-    pub told: Told<'a>,
-}
-
 /// What it comes to that a silent call is looked for.
 #[derive(Drop)]
-pub(crate) enum Silent<'a, S> {
+pub(crate) enum Silent<S> {
     /// The next call of this process is one, and leads to this state.
     Step(usize, S),
-    /// None may be taken. What one call replies, if one was made.
-    Never(Option<Told<'a>>),
+    /// None may be taken.
+    Never,
 }
 
 /// Takes the next call of a process, and gives its number.
@@ -115,13 +101,17 @@ pub(crate) fn one_more<O: Object>(
 }
 
 /// The state that a next call leads to, where it may be taken and has the history's reply.
-pub(crate) fn step_by<O: Object>(
-    task: &Task<O>,
+pub(crate) fn step_by<'a, O: Object>(
+    task: &Task<'_, 'a, O>,
     here: &Here<O::State>,
-    next: &Next,
+    next: &Next<'a>,
+    calls: &mut MadeCalls<'a, O::State>,
 ) -> Result<Option<O::State>, NoMemory>
-    requires { IsNextOf task.now.rows.now here.now.found.now.counts.items next.now }
-    ensures { (history : List (AnyEvent ObjectCall Reply)) → IsAt history task.now.rows.now here.now
+    requires next { IsNextOf task.now.rows.now here.now.found.now.counts.items next.now }
+    requires worded { IsWorded O.meaning O.words_of here.now.found.now }
+    requires made { AreMade O.meaning O.words_of (O.effect task.now.object.now) calls.old }
+    ensures made { OnOk result (AreMade O.meaning O.words_of (O.effect task.now.object.now) calls.new) }
+    ensures stepped { (history : List (AnyEvent ObjectCall Reply)) → IsAt history task.now.rows.now here.now
         → IfOk result (λ stepped. MatchOption stepped (HasNoStep (O.effect task.now.object.now) history (found_in O.meaning here.now.found.now) next.now.process)
         (λ state. IsNextStep (O.effect task.now.object.now) history (found_in O.meaning here.now.found.now) next.now.process (O.meaning state))) }
 {
@@ -132,9 +122,7 @@ pub(crate) fn step_by<O: Object>(
         Some(end) => Some(end.reply),
         None => None,
     };
-    let call = next.begun.call;
-    task.object
-        .outcome(task.alloc, &here.found.state, call, known)
+    outcome(task, here.found, next.begun.call, known, calls)
 }
 
 /// What a call makes of a state: what an equal one made of it, where one was made, so that none is made twice.
@@ -178,15 +166,14 @@ pub(crate) fn ended_call<'a, O: Object>(
 pub(crate) fn any_silent_step<'a, O: Object>(
     task: &Task<'_, 'a, O>,
     here: &Here<O::State>,
-) -> Result<Silent<'a, O::State>, NoMemory>
+) -> Result<Silent<O::State>, NoMemory>
     ensures silent { (history : List (AnyEvent ObjectCall Reply)) → IsAt history task.now.rows.now here.now
         → IfOk result (IsSilentFound (O.effect task.now.object.now) history O.meaning (found_in O.meaning here.now.found.now)) }
     ensures within { IfOk result (IsOfFirst (length here.now.found.now.counts.items)) }
-    ensures told { IfOk result (IsNever (O.effect task.now.object.now) (O.meaning here.now.found.now.state)) }
 {
     let mut made = None;
     if here.limit > task.quiet.until {
-        return Ok(Silent::Never(None));
+        return Ok(Silent::Never);
     }
     let counts = here.found.counts.as_slice();
     for process in 0..counts.len() {
@@ -208,11 +195,5 @@ pub(crate) fn any_silent_step<'a, O: Object>(
         }
         made = Some(now);
     }
-    let Some(last) = made else {
-        return Ok(Silent::Never(None));
-    };
-    Ok(Silent::Never(Some(Told {
-        call: last.call,
-        reply: last.reply,
-    })))
+    Ok(Silent::Never)
 }

@@ -20,10 +20,6 @@ returns-in-Step-clause-chosen g c = λ history found at.
     let silent = subst (IsSilentFound effect history g.O.Object.meaning here) c.in-Step.is (c.in_ok-process.ensures.silent history at) in
     inr (silent, (let from = c.if-from-gt0.false in omega (arith, from)), refl)
 
-pub returns-in-Never-None-clause-chosen : goal.returns-in-Never-None-clause-chosen
-returns-in-Never-None-clause-chosen g c = λ history found at.
-    IfOk-weaker c.next_attempt-in-Never-None.result _ _ (λ o h. at_some _ (λ a try. inl try) o h) (c.next_attempt-in-Never-None.ensures.next history found at)
-
 pub returns-in-Never-clause-chosen : goal.returns-in-Never-clause-chosen
 returns-in-Never-clause-chosen g c = λ history found at.
     IfOk-weaker c.next_attempt-in-Never.result _ _ (λ o h. at_some _ (λ a try. inl try) o h) (c.next_attempt-in-Never.ensures.next history found at)

@@ -3,6 +3,6 @@ use Rattle.wf_order.specs.Search.{found_in}
 use Rattle.wf_order.proofs.Replacing.{process_behind}
 use Rattle.wf_order.proofs.behind.is_behind.Goals as goal
 
-pub returns-then-has_sooner : goal.returns-then-has_sooner
-returns-then-has_sooner g c = λ history at t.
+pub returns-then-has_sooner-clause-behind : goal.returns-then-has_sooner-clause-behind
+returns-then-has_sooner-clause-behind g c = λ history at t.
     process_behind (g.O.Object.effect c.args.task.now.object.now) history at.0.whole (found_in g.O.Object.meaning c.args.here.now.found.now) c.args.next.now.process (c.has_sooner.ensures history at c.if-has_sooner.true)

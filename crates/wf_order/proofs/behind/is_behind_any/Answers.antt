@@ -14,8 +14,8 @@ use Rattle.wf_order.proofs.behind.is_behind_any.Goals as goal
 taken_is : (xs ys : List ℕ) (p x : ℕ) → true ≡ nat_lt p (length xs) → x ≡ get_or xs p x → xs ≡ ys → x ≡ get_or ys p 0
 taken_is xs ys p x t h e = get_or_read xs p x (ltb-true p (length xs) (sym t)) h 0 ∙ ap (λ (l : List ℕ). get_or l p 0) e
 
-pub returns-in-Some-2 : goal.returns-in-Some-2
-returns-in-Some-2 g c = λ history at.
+pub returns-in-Some-2-clause-behind : goal.returns-in-Some-2-clause-behind
+returns-in-Some-2-clause-behind g c = λ history at.
     let process = c.args.process in
     let found = c.args.here.now.found.now in
     let here = found_in g.O.Object.meaning found in
@@ -27,5 +27,5 @@ returns-in-Some-2 g c = λ history at.
     let named = subst (λ (p : ℕ). AreAlike history (call_at p (get_or here.counts p 0)) (call_at process c.in-Some.place.now)) (sym c.in-Some-next_of.ensures.0) first in
     let alike = subst (λ (k : ℕ). AreAlike history (call_at other (get_or here.counts other 0)) (call_at process k)) own named in
     let after = g.O.Object.meaning c.in-Some-2._state in
-    let only = MatchOption-at_some (HasNoStep effect history here other) (λ s. IsNextStep effect history here other (g.O.Object.meaning s)) c.in-Some-2._state c.in-Some-2.is (c.in_ok-_state.ensures history at) in
+    let only = MatchOption-at_some (HasNoStep effect history here other) (λ s. IsNextStep effect history here other (g.O.Object.meaning s)) c.in-Some-2._state c.in-Some-2.is (c.in_ok-_state.ensures.stepped history at) in
     λ t. alike_behind effect history at.0.whole here process other alike (call_at other (get_or here.counts other 0)) (one_more here.counts other after) only

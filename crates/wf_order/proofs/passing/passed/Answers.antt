@@ -19,42 +19,45 @@ use Rattle.wf_order.proofs.passing.passed.Goals as goal
 nothing : (f : Frame) → Contains [] f → ⊥
 nothing f there = let p = place_of [] f there in let e = p.1 in absurd (cc)
 
-pub loop-told-init : goal.loop-told-init
-loop-told-init g c = record {
-  told = tt;
-  worded = c.requires;
+pub loop-process-init : goal.loop-process-init
+loop-process-init g c = record {
+  made = c.requires.made;
+  worded = c.requires.worded;
   sized = refl;
   passed = λ history are bound. record { frames = []; pushed = sym (append-nil c.args.stack.now.items); past = λ f there. absurd (nothing f there); passes = none_passed };
   limit = λ history are bound. bound;
 }
 
-pub reader_at-requires : goal.reader_at-requires
-reader_at-requires g c = c.loop-told.invariant.told
+pub reader_at-requires-clause-made : goal.reader_at-requires-clause-made
+reader_at-requires-clause-made g c = c.loop-process.invariant.made
 
-pub loop-told-smaller : goal.loop-told-smaller
-loop-told-smaller g c =
+pub reader_at-requires-clause-worded : goal.reader_at-requires-clause-worded
+reader_at-requires-clause-worded g c = c.loop-process.invariant.worded
+
+pub loop-process-smaller : goal.loop-process-smaller
+loop-process-smaller g c =
     let rows = c.args.task.now.rows.now in
-    let counts = c.loop-told.there.counts.items in
+    let counts = c.loop-process.there.counts.items in
     let next = some_at (HasNext rows counts) c.in_ok-process.field-0 c.in-Some.process c.in-Some.is c.in_ok-process.ensures.next in
     subst (λ (l : List ℕ). left (map length (begun_rows rows)) l < left (map length (begun_rows rows)) counts) (sym c.in_ok-number.ensures.counts)
     (left_next (begun_rows rows) counts c.in-Some.process next.0 next.1)
 
-pub loop-told-preserved : goal.loop-told-preserved
-loop-told-preserved g c =
+pub loop-process-preserved : goal.loop-process-preserved
+loop-process-preserved g c =
     let effect = g.O.Object.effect c.args.task.now.object.now in
     let rows = c.args.task.now.rows.now in
-    let there = c.loop-told.there in
+    let there = c.loop-process.there in
     let counts = there.counts.items in
     let process = c.in-Some.process in
     let set_is = c.in_ok-number.ensures.counts in
     let size = ap length set_is ∙ length-set counts process (get_or counts process 0 + 1) in
-    let old = c.loop-told.invariant in
+    let old = c.loop-process.invariant in
     let from = found_in g.O.Object.meaning c.args.there.now in
     let here = found_in g.O.Object.meaning there in
-    let frame : Frame = record { place = c.args.place; next = rows.events; id = record { process = process; number = c.in_ok-number.number }; limit = c.loop-told.limit } in
+    let frame : Frame = record { place = c.args.frame.place; next = rows.events; id = record { process = process; number = c.in_ok-number.number }; limit = c.loop-process.limit } in
     let id : call_at process (get_or counts process 0) ≡ frame.id = ap (λ (n : ℕ). record { process = process; number = n }) (sym c.in_ok-number.ensures.number) in
     let to : one_more counts process here.state ≡ record { counts = c.take_next.new.counts.items; state = here.state } = same_configuration (sym set_is) refl in record {
-      told = c.in_ok-process.ensures.told;
+      made = c.in_ok-process.ensures.made;
       worded = old.worded;
       sized = size ∙ old.sized;
       passed = λ history are bound.
@@ -69,7 +72,7 @@ loop-told-preserved g c =
             pushed = c.in_ok-push.ensures.items ∙ ap (λ (l : List Frame). l ++ frame ∷ []) p.pushed ∙ append_assoc c.args.stack.now.items p.frames (frame ∷ []);
             past = λ f in_more. elim (Contains-push_cases p.frames frame f in_more) [
               | inl before ↦ p.past f before
-              | inr same ↦ subst (λ (x : Frame). (x.place ≡ c.args.place) × (length history ≤ x.next)) same (refl, omega (arith, size_is))
+              | inr same ↦ subst (λ (x : Frame). (x.place ≡ c.args.frame.place) × (length history ≤ x.next)) same (refl, omega (arith, size_is))
             ];
             passes =
                 subst (λ (l : List CallId). Passes effect history from l (record { counts = c.take_next.new.counts.items; state = here.state })) (sym (map-append (λ x. x.id) p.frames (frame ∷ [])))
@@ -83,10 +86,10 @@ loop-told-preserved g c =
     }
 
 pub returns-clause-passed : goal.returns-clause-passed
-returns-clause-passed g c = c.loop-told.invariant.passed
+returns-clause-passed g c = c.loop-process.invariant.passed
 
 pub returns-clause-limit : goal.returns-clause-limit
-returns-clause-limit g c = c.loop-told.invariant.limit
+returns-clause-limit g c = c.loop-process.invariant.limit
 
 pub returns-clause-worded : goal.returns-clause-worded
-returns-clause-worded g c = c.loop-told.invariant.worded
+returns-clause-worded g c = c.loop-process.invariant.worded

@@ -1,18 +1,12 @@
 -- One try, by what `chosen` and `arrive` say.
-use Rattle.std.proofs.Common.{◌≡◌, sym, ap, refl, ◌∙◌, subst, ℕ, ◌<◌, List, length, set, Option, Some, None, option_map, arith}
-use Rattle.std.specs.HashSet.{HashSet}
-use Rattle.std.specs.Prelude.{IfSome, slice_get}
-use Rattle.ob_interface.specs.Call.{ObjectCall, Reply}
+use Rattle.std.proofs.Common.{sym, ap, refl, ◌∙◌, subst, ℕ, ◌<◌, List, length, set, option_map, arith}
 use Rattle.std.proofs.lemmas.Option.{MatchOption-at_none, MatchOption-at_some, slice_get-map}
-use Rattle.wf_history.proofs.Positions.{one_item}
+use Rattle.wf_history.proofs.Positions.{contains_at, one_item}
 use Rattle.wf_history.specs.declared.event.CallId.{CallId}
 use Rattle.wf_order.specs.declared.search.Frame.{Frame}
-use Rattle.wf_order.specs.declared.seen.Found.{Found}
-use Rattle.wf_order.specs.declared.step.Heard.{Heard}
-use Rattle.wf_order.specs.declared.step.Told.{Told}
 use Rattle.wf_order.specs.Rows.{AreRows}
 use Rattle.wf_order.specs.Rules.{IsAnswered}
-use Rattle.wf_order.specs.Search.{found_in, all_found, AreAllAnswered, IsChoice, IsHeardAt, IsLed, IsTold}
+use Rattle.wf_order.specs.Search.{found_in, all_found, AreAllAnswered, IsChoice, IsLed}
 use Rattle.wf_order.specs.Steps.{Configuration, IsLimit, IsOneMore, IsStep}
 use Rattle.wf_order.proofs.Arriving.{chosen_tried, top_at, step_rows, after_pop, concluded}
 use Rattle.wf_order.proofs.Searching.{led_on, passes_size, past_answered}
@@ -85,19 +79,5 @@ returns-clause-search g c = λ history processes exact start are h.
     (λ path. path.items) to (view there) c.push.new.self.items c.passed.new.stack.items (all_found g.O.Object.meaning c.arrive.new.seen) c.arrive.new.stack.items c.in_ok-arrived.arrived t.step t.covers c.in_ok-push.ensures.items passes
     (c.in_ok-arrived.ensures.arrival history there_rows (c.in_ok-limit.ensures.limit history own_rows bound))
 
--- what is heard is told of the configuration that was found last
-heard_last : {State M S : Type 0} (meaning : State → M) (Effect : ObjectCall → M → M → Reply → Type 0) (seen : HashSet (Found State) S) (there : Found State) (old new : ℕ) (told : Option Told) (o : Option Heard) →
-    IfSome told (IsTold Effect (meaning there.state)) → (old < new → slice_get seen.keys old ≡ Some there) → IfSome o (λ h. (old < new) × (h.place ≡ old) × (told ≡ Some h.told)) → IfSome o (IsHeardAt meaning Effect seen)
-heard_last meaning Effect seen there old new told None is last h = tt
-heard_last meaning Effect seen there old new told (Some x) is last h = record {
-  found = there;
-  at = ap (slice_get seen.keys) h.1 ∙ last h.0;
-  told = some_at (IsTold Effect (meaning there.state)) told x.told h.2 is;
-}
-
-pub returns-clause-heard : goal.returns-clause-heard
-returns-clause-heard g c =
-    heard_last g.O.Object.meaning (g.O.Object.effect c.args.task.now.object.now) c.arrive.new.seen c.passed.new.there c.len-place.result c.len-2.result c.in_ok-limit.told c.heard_at.result
-    c.in_ok-limit.ensures.told
-    (λ more. let old = c.len-place.ensures.len in let new = c.len-2.ensures.len in ap (slice_get c.arrive.new.seen.keys) old ∙ c.in_ok-arrived.ensures.last (omega (arith, more, old, new)))
-    c.heard_at.ensures
+pub chosen-requires-clause-worded : goal.chosen-requires-clause-worded
+chosen-requires-clause-worded g c = c.requires.worded c.index.result.now (contains_at c.args.seen.now.keys c.args.frame.place c.index.result.now c.index.ensures)

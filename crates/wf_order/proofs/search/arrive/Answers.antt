@@ -1,8 +1,7 @@
 -- By the limit of the configuration, and by what is kept.
 use Rattle.std.proofs.Common.{◌≡◌, refl, sym, ap, ◌∙◌, subst, ◌<◌, ◌∷◌, [], Bool, true, false, not, List, length, map, arith, inl, inr}
 use Rattle.std.proofs.lemmas.List.{length-map, map-append}
-use Rattle.std.specs.List.{Contains, slice_get}
-use Rattle.wf_history.proofs.Positions.{place_here}
+use Rattle.std.specs.List.{Contains}
 use Rattle.wf_order.specs.declared.search.Frame.{Frame}
 use Rattle.wf_order.specs.declared.seen.Found.{Found}
 use Rattle.wf_order.specs.Search.{found_in}
@@ -65,10 +64,3 @@ returns-clause-worded g c = λ f in_new.
     let new = to_not _ (sym c.if-not-branch.false ∙ c.in_ok-insert.ensures.added) in
     worded_push g.O.Object.meaning g.O.Object.words_of (λ a b. g.met.O.Object.told_apart a b) keys there c.requires.worded c.requires.words f
     (subst (λ (l : List (Found g.row.O-State.Denot)). Contains l f) (c.in_ok-insert.ensures.keys ∙ keys_pushed found_eq keys there new) in_new)
-
-pub returns-clause-last : goal.returns-clause-last
-returns-clause-last g c = λ more.
-    let there = c.args.there in
-    let keys = c.args.seen.now.keys in
-    let new = to_not _ (sym c.if-not-branch.false ∙ c.in_ok-insert.ensures.added) in
-    ap (λ (l : List (Found g.row.O-State.Denot)). slice_get l (length keys)) (c.in_ok-insert.ensures.keys ∙ keys_pushed found_eq keys there new) ∙ place_here keys [] there

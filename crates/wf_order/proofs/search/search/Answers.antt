@@ -16,6 +16,7 @@ use Rattle.wf_order.specs.Steps.{IsLimit, start_at}
 use Rattle.wf_order.proofs.Completeness.{none_taken}
 use Rattle.wf_order.proofs.Ending.{start_legal, start_search, start_rows, arrival_at, many}
 use Rattle.wf_order.proofs.Keeping.{found_apart, found_alike, found_eq}
+use Rattle.wf_order.proofs.Remembering.{none_made}
 use Rattle.wf_order.proofs.Searching.{led_on, none_legal, top_within}
 use Rattle.wf_order.proofs.Soundness.{sound}
 use Rattle.wf_order.proofs.search.search.Goals as goal
@@ -61,7 +62,7 @@ loop-frame-init g c =
       c.in_ok-order.ensures.worded,
       subst (λ (n : ℕ). n + work c.args.processes rows (all_found g.O.Object.meaning c.arrive.new.seen) c.arrive.new.stack.items ≤ try_cost c.args.processes (length c.args.task.now.events.now + 1)) (length-map c.arrive.new.seen.keys view)
           (subst (λ (n : ℕ). length (all_found g.O.Object.meaning c.arrive.new.seen) + work c.args.processes rows (all_found g.O.Object.meaning c.arrive.new.seen) c.arrive.new.stack.items ≤ try_cost c.args.processes (n + 1)) (length-map c.args.task.now.events.now event_of) s.1),
-      tt,
+      none_made g.O.Object.meaning g.O.Object.words_of effect c.in_ok-calls.calls c.in_ok-calls.ensures,
     )
 
 pub returns-then-len-most-clause-answer : goal.returns-then-len-most-clause-answer
@@ -96,8 +97,8 @@ advance-requires-clause-place g c =
     let size = length-map c.loop-frame.seen.keys view in
     omega (arith, within, size)
 
-pub advance-requires-clause-heard : goal.advance-requires-clause-heard
-advance-requires-clause-heard g c = c.loop-frame.invariant.3
+pub advance-requires-clause-made : goal.advance-requires-clause-made
+advance-requires-clause-made g c = c.loop-frame.invariant.3
 
 pub returns-in-Some-2-clause-answer : goal.returns-in-Some-2-clause-answer
 returns-in-Some-2-clause-answer g c =
@@ -135,7 +136,7 @@ loop-frame-preserved g c =
     let less = subst (λ (l : List Frame). work c.args.processes rows more c.advance.new.stack.items < work c.args.processes rows found l) (sym c.in-Some-pop.ensures.items) both.1 in
     let one = c.in_ok-order-2.ensures.one_more in
     let bound = c.loop-frame.invariant.2 in
-    (both.0, c.in_ok-order-2.ensures.worded, omega (arith, less, one, bound), c.in_ok-order-2.ensures.heard)
+    (both.0, c.in_ok-order-2.ensures.worded, omega (arith, less, one, bound), c.in_ok-order-2.ensures.made)
 
 pub returns-clause-answer : goal.returns-clause-answer
 returns-clause-answer g c =

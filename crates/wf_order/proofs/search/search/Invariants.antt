@@ -1,9 +1,9 @@
 -- What was found, and what is still to be done.
 use Rattle.std.proofs.Common.{◌+◌, ◌≤◌, map, length, true}
 use Rattle.indexmap.specs.IndexSet.{index_set_len}
-use Rattle.std.specs.Prelude.{IfSome}
 use Rattle.wf_history.specs.View.{event_of}
-use Rattle.wf_order.specs.Search.{all_found, AreWorded, IsHeardAt, IsLed, IsSearch, try_cost, work}
+use Rattle.wf_order.specs.MadeCalls.{AreMade}
+use Rattle.wf_order.specs.Search.{all_found, AreWorded, IsLed, IsSearch, try_cost, work}
 use Rattle.wf_order.specs.Steps.{start_at}
 use Rattle.wf_order.proofs.search.search.Given as goal
 
@@ -13,7 +13,7 @@ invariant-loop-frame g l =
     (start_at l.processes (g.O.Object.opening l.task.object.now)) (all_found g.O.Object.meaning l.seen) l.stack.items
     × AreWorded g.O.Object.meaning g.O.Object.words_of l.seen
     × (index_set_len l.seen + work l.processes l.task.rows.now (all_found g.O.Object.meaning l.seen) l.stack.items ≤ try_cost l.processes (length l.task.events.now + 1))
-    × IfSome l.heard (IsHeardAt g.O.Object.meaning (g.O.Object.effect l.task.object.now) l.seen)
+    × AreMade g.O.Object.meaning g.O.Object.words_of (g.O.Object.effect l.task.object.now) l.calls
 
 abbrev pub decreases-loop-frame : goal.decreases-loop-frame
 decreases-loop-frame g l = work l.processes l.task.rows.now (all_found g.O.Object.meaning l.seen) l.stack.items

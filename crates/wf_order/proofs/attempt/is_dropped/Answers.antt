@@ -1,0 +1,48 @@
+-- An equal call comes sooner, or the reply is another one.
+use Rattle.std.proofs.Common.{◌≡◌, refl, ap, sym, subst, ◌∙◌, ℕ, ◌<◌, true, List, length, get_or, Option, option_map}
+use Rattle.std.specs.Prelude.{nat_lt}
+use Rattle.std.proofs.lemmas.Bool.{ltb-true}
+use Rattle.std.proofs.lemmas.List.{get_or_read}
+use Rattle.ob_interface.specs.Call.{ObjectCall, Reply}
+use Rattle.ob_interface.specs.View.{reply_of}
+use Rattle.wf_history.specs.View.{seen_reply}
+use Rattle.wf_order.specs.declared.rows.Ended.{Ended}
+use Rattle.wf_order.specs.Search.{found_in}
+use Rattle.wf_order.proofs.Attempts.{behind_answered, none_answered}
+use Rattle.wf_order.proofs.Replacing.{process_behind}
+use Rattle.wf_order.proofs.Stepping.{none_agrees}
+use Rattle.wf_order.proofs.attempt.is_dropped.Goals as goal
+
+taken_is : (xs ys : List ℕ) (p x : ℕ) → true ≡ nat_lt p (length xs) → x ≡ get_or xs p x → xs ≡ ys → x ≡ get_or ys p 0
+taken_is xs ys p x t h e = get_or_read xs p x (ltb-true p (length xs) (sym t)) h 0 ∙ ap (λ (l : List ℕ). get_or l p 0) e
+
+within_is : (xs ys : List ℕ) (p : ℕ) → true ≡ nat_lt p (length xs) → xs ≡ ys → p < length ys
+within_is xs ys p t e = subst (λ (l : List ℕ). p < length l) e (ltb-true p (length xs) (sym t))
+
+pub returns-then-is_sooner : goal.returns-then-is_sooner
+returns-then-is_sooner g c = λ history found at yes.
+    let next = c.args.next.now in
+    let here = found_in g.O.Object.meaning c.args.here.now.found.now in
+    let counts = here.counts in
+    let p = c.args.tried.now.process in
+    let is = taken_is c.deref.result.now counts p c.in-Some-get.count.now c.in-Some-get.ensures.lookup.0 c.in-Some-get.ensures.lookup.1 c.deref.ensures in
+    let within = within_is c.deref.result.now counts p c.in-Some-get.ensures.lookup.0 c.deref.ensures in
+    behind_answered (g.O.Object.effect c.args.task.now.object.now) history found here next.process
+    (process_behind (g.O.Object.effect c.args.task.now.object.now) history at.0.whole here next.process
+    (c.is_sooner.ensures history counts next.process (get_or counts next.process 0) at.0 at.1 (c.requires.next.begun, c.requires.next.ended ∙ c.in-Some.is) within is c.if-is_sooner.true))
+
+pub returns : goal.returns
+returns g c = λ history found at yes.
+    let next = c.args.next.now in
+    let here = found_in g.O.Object.meaning c.args.here.now.found.now in
+    let effect = g.O.Object.effect c.args.task.now.object.now in
+    let end = c.in-Some.end in
+    let other = c.replies_otherwise.ensures yes in
+    let made = other.made in
+    let is = other.is in
+    let call = subst (λ (x : ObjectCall). effect x here.state (g.O.Object.meaning made.state) (reply_of made.reply)) is.call_is
+    (c.requires.made.each other.row made is.at here.state (sym c.requires.worded ∙ sym is.words_are)) in
+    let reply : Option Ended → Option Reply = λ o. option_map seen_reply (option_map (λ (e : Ended). e.reply) o) in
+    none_answered effect history found here next.process
+    (none_agrees effect (λ call. g.met.O.Object.determined c.args.task.now.object.now call) history c.args.task.now.rows.now here at.0 c.args.here.now.limit at.1 next.process (get_or here.counts next.process 0) refl next.begun c.requires.next.begun
+    (g.O.Object.meaning made.state, reply_of made.reply, call, seen_reply end.reply, ap reply (c.requires.next.ended ∙ c.in-Some.is), λ e. other.other (sym e)))

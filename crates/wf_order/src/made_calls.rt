@@ -1,0 +1,233 @@
+//! Calls that were made, so that few are made twice.
+
+ghost use Rattle.std.specs.Prelude.{◌≡◌, ◌<◌, Some, None, get_or, replicate, IfOk, IfSome, OnOk, IsTrue, option_copied, option_map, slice_set, vec_len};
+ghost use Rattle.ob_interface.specs.View.{reply_of};
+ghost use Rattle.wf_history.specs.View.{seen_call, seen_reply};
+ghost use Rattle.wf_order.specs.MadeCalls.{AreMade, HasMade, IsAsked, IsAt, IsOtherwise};
+ghost use Rattle.wf_order.specs.Rules.{IsOutcome};
+ghost use Rattle.wf_order.specs.Search.{IsWorded};
+
+use crate::compared_replies::{is_same_call, is_same_reply};
+use crate::searched_object::{Object, Words};
+use crate::seen::Found;
+use crate::step::Task;
+use ob_interface::NoMemory;
+use ob_interface::call::Reply;
+use ob_interface::scalar::Scalar;
+use smallvec::SmallVec;
+use std::alloc::{AllocError, Global};
+use wf_history::{SeenCall, SeenReply};
+
+/// How many calls are remembered at most.
+const ROWS: usize = 64;
+
+/// An odd number that spreads a number over its upper bits.
+const SPREAD: u64 = 0x9E37_79B9_7F4A_7C15;
+
+/// So many calls that write are looked up in vain, beyond those that are found, before none is looked up any more.
+const VAIN_CALLS: usize = 256;
+
+/// What a call made of the state with these words, and its reply.
+#[derive(Drop)]
+pub(crate) struct MadeCall<'a, S> {
+    pub words: Words,
+    pub call: SeenCall<'a>,
+    pub state: S,
+    pub reply: Reply,
+}
+
+/// Calls that were made. Each is found by the row of its state and call, where it stands until another one comes there.
+#[derive(Drop)]
+pub(crate) struct MadeCalls<'a, S> {
+    pub rows: Vec<Option<MadeCall<'a, S>>>,
+    /// How many calls that write may still be looked up in vain.
+    left: usize,
+}
+
+/// A scalar as a number.
+fn number_of(scalar: Scalar) -> u64 {
+    match scalar {
+        Scalar::Int(number) => number.cast_unsigned() as u64,
+        Scalar::Bool(false) => 0,
+        Scalar::Bool(true) => 1,
+    }
+}
+
+/// The words of a state as a number.
+fn number_of_words(words: &[u64]) -> u64 {
+    let mut number = 0_u64;
+    for word in words {
+        number = number.wrapping_mul(31).wrapping_add(*word);
+    }
+    number
+}
+
+/// The row of a call on the state with these words.
+fn row_of(words: &[u64], call: SeenCall) -> usize
+    ensures { result < 64 }
+{
+    let mut number = number_of_words(words)
+        .wrapping_mul(31)
+        .wrapping_add(call.proc as u64);
+    for scalar in call.args.lent().as_slice() {
+        number = number.wrapping_mul(31).wrapping_add(number_of(*scalar));
+    }
+    (number.wrapping_mul(SPREAD) >> 58) as usize % ROWS
+}
+
+/// No call was made.
+pub(crate) fn no_calls<'a, S: Drop>(alloc: Global) -> Result<MadeCalls<'a, S>, AllocError>
+    ensures { IfOk result (λ calls. calls.rows.items ≡ replicate 64 None) }
+{
+    let mut rows = Vec::with_capacity(alloc, ROWS)?;
+    for _ in 0..ROWS {
+        rows.push(None)?;
+    }
+    Ok(MadeCalls {
+        rows,
+        left: VAIN_CALLS,
+    })
+}
+
+/// What stands at a row.
+fn made_at<'c, 'a, S>(calls: &'c MadeCalls<'a, S>, row: usize) -> Option<&'c MadeCall<'a, S>>
+    ensures { option_copied result ≡ get_or calls.now.rows.items row None }
+{
+    match calls.rows.get(row) {
+        Some(Some(made)) => Some(made),
+        _ => None,
+    }
+}
+
+/// Has a call stand at a row.
+fn put<'a, S: Drop>(calls: &mut MadeCalls<'a, S>, row: usize, made: MadeCall<'a, S>)
+    requires { row < vec_len calls.old.rows }
+    ensures { calls.new.rows.items ≡ slice_set calls.old.rows.items row (Some made.entry) }
+{
+    calls.rows[row] = Some(made);
+}
+
+/// What stands at a row, if it is this call on the state with these words.
+fn found_at<'c, 'a, S>(
+    calls: &'c MadeCalls<'a, S>,
+    row: usize,
+    words: &[u64],
+    call: SeenCall,
+) -> Option<&'c MadeCall<'a, S>>
+    ensures { IfSome result (λ made. IsAt calls.now row words.now (seen_call call.entry) made.now) }
+{
+    let made = made_at(calls, row)?;
+    if made.words.as_slice() != words || !is_same_call(made.call, call) {
+        return None;
+    }
+    Some(made)
+}
+
+/// The row at which a call on a configuration's state stands, which is made where it wasn't; and whether it was.
+fn row_with<'a, O: Object>(
+    task: &Task<'_, 'a, O>,
+    found: &Found<O::State>,
+    call: SeenCall<'a>,
+    calls: &mut MadeCalls<'a, O::State>,
+) -> Result<(usize, bool), NoMemory>
+    requires worded { IsWorded O.meaning O.words_of found.now }
+    requires made { AreMade O.meaning O.words_of (O.effect task.now.object.now) calls.old }
+    ensures made { OnOk result (AreMade O.meaning O.words_of (O.effect task.now.object.now) calls.new) }
+    ensures there { IfOk result (λ r. HasMade O.meaning O.words_of (O.effect task.now.object.now) calls.new r.0 (seen_call call.entry) (O.meaning found.now.state)) }
+{
+    let words = found.words.as_slice();
+    let row = row_of(words, call);
+    if let Some(_made) = found_at(calls, row, words, call) {
+        return Ok((row, true));
+    }
+    let (state, reply) = task.object.apply(task.alloc, &found.state, call)?;
+    let words = SmallVec::from_slice(task.alloc, words)?;
+    let made = MadeCall {
+        words,
+        call,
+        state,
+        reply,
+    };
+    put(calls, row, made);
+    Ok((row, false))
+}
+
+/// Whether a call has this reply in a configuration's state.
+pub(crate) fn replies_so<'a, O: Object>(
+    task: &Task<'_, 'a, O>,
+    found: &Found<O::State>,
+    call: SeenCall<'a>,
+    reply: SeenReply,
+    calls: &mut MadeCalls<'a, O::State>,
+) -> Result<bool, NoMemory>
+    requires worded { IsWorded O.meaning O.words_of found.now }
+    requires made { AreMade O.meaning O.words_of (O.effect task.now.object.now) calls.old }
+    ensures made { OnOk result (AreMade O.meaning O.words_of (O.effect task.now.object.now) calls.new) }
+    ensures so { IfOk result (IsAsked (O.effect task.now.object.now) (seen_call call.entry) (O.meaning found.now.state) (seen_reply reply.entry)) }
+{
+    let (row, _) = row_with(task, found, call, calls)?;
+    let Some(made) = made_at(calls, row) else {
+        unreachable!()
+    };
+    Ok(is_same_reply(&made.reply, reply))
+}
+
+/// Whether a call is known to have another reply in a configuration's state.
+pub(crate) fn replies_otherwise<S>(
+    found: &Found<S>,
+    call: SeenCall,
+    reply: SeenReply,
+    calls: &MadeCalls<S>,
+) -> bool
+    ensures { IsTrue result → IsOtherwise calls.now found.now.words.items (seen_call call.entry) (seen_reply reply.entry) }
+{
+    let words = found.words.as_slice();
+    let Some(made) = found_at(calls, row_of(words, call), words, call) else {
+        return false;
+    };
+    if is_same_reply(&made.reply, reply) {
+        return false;
+    }
+    true
+}
+
+/// Counts a call that writes, and was made before or in vain.
+fn count<S>(calls: &mut MadeCalls<S>, was_there: bool)
+    ensures { calls.new.rows.items ≡ calls.old.rows.items }
+{
+    calls.left = if was_there {
+        calls.left.saturating_add(1)
+    } else {
+        calls.left.saturating_sub(1)
+    };
+}
+
+/// What a call makes of a configuration's state, where its reply is the one that is known, if one is. Where few such calls had been made, none is
+/// looked up.
+pub(crate) fn outcome<'a, O: Object>(
+    task: &Task<'_, 'a, O>,
+    found: &Found<O::State>,
+    call: SeenCall<'a>,
+    known: Option<SeenReply>,
+    calls: &mut MadeCalls<'a, O::State>,
+) -> Result<Option<O::State>, NoMemory>
+    requires worded { IsWorded O.meaning O.words_of found.now }
+    requires made { AreMade O.meaning O.words_of (O.effect task.now.object.now) calls.old }
+    ensures made { OnOk result (AreMade O.meaning O.words_of (O.effect task.now.object.now) calls.new) }
+    ensures outcome { IfOk result (λ to. IsOutcome (O.effect task.now.object.now (seen_call call.entry)) (O.meaning found.now.state) (option_map seen_reply known.entry) (option_map O.meaning to)) }
+{
+    if calls.left == 0 {
+        return task.object.outcome(task.alloc, &found.state, call, known);
+    }
+    let (row, was_there) = row_with(task, found, call, calls)?;
+    count(calls, was_there);
+    let Some(made) = made_at(calls, row) else {
+        unreachable!()
+    };
+    if let Some(reply) = known {
+        if !is_same_reply(&made.reply, reply) {
+            return Ok(None);
+        }
+    }
+    Ok(Some(task.object.copy(task.alloc, &made.state)?))
+}
