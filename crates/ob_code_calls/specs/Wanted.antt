@@ -1,15 +1,23 @@
 -- Calls of which a reply is wanted.
-use Rattle.std.specs.Prelude.{◌≡◌, List, map}
+use Rattle.std.specs.Prelude.{◌≡◌, ℕ, List, Option, Some, None, map}
 use Rattle.ob_interface.specs.Call.{ObjectCall, Reply, Answers, Trapped}
 use Rattle.ob_interface.specs.declared.scalar.Scalar.{Scalar}
+use Rattle.ob_code_calls.specs.Calls.{meaning_of}
 use Rattle.ob_code_calls.specs.Scalars.{held_of}
 use Rattle.ob_code_calls.specs.declared.scalar_calls.Led.{Led}
 use Rattle.ob_code_calls.specs.declared.scalar_calls.Led.TheVariants as Leds
 use Rattle.ob_code_calls.specs.declared.scalar_calls.Wanted.{Wanted}
 use Rattle.ob_code_calls.specs.declared.scalar_calls.Wanted.TheVariants as Wanteds
 use Rattle.ob_code_correct.specs.CodeMeaning.{EngineParts}
+use Rattle.ob_code_machine.specs.Body.{Run}
 use Rattle.ob_meaning.specs.ByPositionObject.{effect}
 use Rattle.ob_typing.specs.Program.{Program}
+use Rattle.wf_table.specs.Meaning.{kept}
+
+-- the reply of a call whose body has returned, or trapped so
+abbrev pub reply_behind : EngineParts → ObjectCall → Run → (trap : Option ℕ) → Reply
+reply_behind parts call run None = (meaning_of parts).reply call (kept (meaning_of parts) run)
+reply_behind parts call run (Some number) = Trapped number
 
 -- the reply is the one that is wanted
 abbrev pub IsWanted : Wanted → Reply → Type 0

@@ -4,7 +4,7 @@ ghost use Rattle.std.specs.Prelude.{◌≡◌, ◌+◌, ◌*◌, length};
 
 use crate::fitting_arguments::do_fit;
 use crate::room::Room;
-use crate::running::{begin, reply_to, run_on};
+use crate::running::{begin, has_replied, reply_to, run_on};
 use ob_checked::checked::Checked;
 use ob_code_correct::well_formed_laws::checked_is_well_formed;
 use ob_code_engine::CodeEngine;
@@ -43,8 +43,9 @@ impl Drop for CodeCalls {
 }
 
 impl CodeCalls {
-    ghost use Rattle.std.specs.Prelude.{◌≤◌, IfOk, IsTrue, List};
+    ghost use Rattle.std.specs.Prelude.{◌≤◌, ◌↔◌, IfOk, IsTrue, List};
     ghost use Rattle.ob_checked.specs.CheckedModule.{program_in};
+    ghost use Rattle.ob_interface.specs.Call.{Answers};
     ghost use Rattle.ob_code_calls.specs.Calls.{IsMade, IsMadeThrough, asked, block_behind, left_by, meaning_of, paid};
     ghost use Rattle.ob_code_calls.specs.Parts.{parts_in, IsRoomFor};
     ghost use Rattle.ob_code_correct.specs.Compiled.{IsFitting, parts_of};
@@ -117,6 +118,7 @@ impl CodeCalls {
     }
 
     /// The body of a call on a block, from its beginning to where it ends: what its last instruction answers, and how many there were.
+    #[inline(always)]
     fn run_through(
         &self,
         room: &mut Room,
@@ -138,6 +140,7 @@ impl CodeCalls {
 
     /// A call that is made on the block of a state: the trap with which it ends, if it traps, and how many instructions it took. Where it
     /// traps, what it has written is left in the block: the words of the state are those that it had before.
+    #[inline(always)]
     pub fn make(
         &self,
         room: &mut Room,
@@ -170,6 +173,17 @@ impl CodeCalls {
     {
         let words = room.results.as_mut_slice();
         reply_to(self.alloc, &self.engine, &room.run, proc, words)
+    }
+
+    /// Whether a call of an export whose body has returned is answered by these values.
+    #[inline(always)]
+    pub(crate) fn has_replied(&self, room: &mut Room, proc: usize, values: &[Scalar]) -> bool
+        requires { IsRoomFor (parts_in self.now) room.old }
+        ensures { (arguments : List Scalars.Scalar) → IsTrue result
+            ↔ ((meaning_of (parts_in self.now)).reply (asked proc arguments) (kept (meaning_of (parts_in self.now)) room.old.run) ≡ Answers values.now) }
+    {
+        let words = room.results.as_mut_slice();
+        has_replied(&self.engine, &room.run, proc, values, words)
     }
 
     /// A call that is made on the block of a state, its reply, and how many instructions it took. Where it traps, what it has written is

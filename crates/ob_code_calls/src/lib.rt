@@ -12,6 +12,7 @@ mod running;
 pub mod scalar_calls;
 pub mod scalars;
 pub mod standing_state;
+mod wanted_values;
 
 pub use block_calls::CodeCalls;
 pub use room::Room;

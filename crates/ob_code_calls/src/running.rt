@@ -1,13 +1,15 @@
 //! The steps of one body in a row.
 
-ghost use Rattle.std.specs.Prelude.{◌≡◌, List, length, map, option_copied, slice_get};
+ghost use Rattle.std.specs.Prelude.{◌≡◌, ◌↔◌, IsTrue, List, length, map, option_copied, slice_get};
 ghost use Rattle.std.specs.List.{range_with_len};
 ghost use Rattle.ob_code_calls.specs.Calls.{asked, meaning_of};
 ghost use Rattle.ob_code_correct.specs.Compiled.{HasReserve, IsFitting};
+ghost use Rattle.ob_interface.specs.Call.{Answers};
 ghost use Rattle.ob_interface.specs.View.{reply_of};
 ghost use Rattle.ob_interface.specs.declared.scalar.Scalar as Scalars;
 ghost use Rattle.wf_table.specs.Meaning.{kept, steps};
 
+use crate::wanted_values::are_values_of;
 use ob_code_engine::call_words::{lay, reply_in};
 use ob_code_engine::{CodeEngine, Entrance};
 use ob_code_machine::Body;
@@ -19,6 +21,7 @@ use wf_object::Engine;
 use wf_table::EngineTurn;
 
 /// Begins the body of a call, by the words of which it is written in these.
+#[inline(always)]
 pub(crate) fn begin(
     engine: &CodeEngine,
     run: &mut Body,
@@ -102,5 +105,26 @@ pub(crate) fn reply_to(
     match export_at(engine, proc) {
         Some(export) => reply_in(alloc, export.parameters(), words),
         None => Reply::Done(SmallVec::new(alloc)),
+    }
+}
+
+/// Whether a call of an export whose body has returned is answered by these values.
+#[inline(always)]
+pub(crate) fn has_replied(
+    engine: &CodeEngine,
+    run: &Body,
+    proc: usize,
+    values: &[Scalar],
+    words: &mut [i64],
+) -> bool
+    requires ready { HasReserve engine.now.parts run.now }
+    requires room { length words.old ≡ (meaning_of engine.now.parts).replies }
+    ensures { (arguments : List Scalars.Scalar) → IsTrue result
+        ↔ ((meaning_of engine.now.parts).reply (asked proc arguments) (kept (meaning_of engine.now.parts) run.now) ≡ Answers values.now) }
+{
+    note_results(engine, run, words);
+    match export_at(engine, proc) {
+        Some(export) => are_values_of(export.parameters(), words, values),
+        None => are_values_of(&[], words, values),
     }
 }

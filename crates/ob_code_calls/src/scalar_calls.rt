@@ -2,8 +2,6 @@
 
 ghost use Rattle.std.specs.Prelude.{◌≡◌, ◌↔◌, IsTrue};
 ghost use Rattle.ob_code_calls.specs.Parts.{parts_in};
-ghost use Rattle.ob_code_calls.specs.Wanted.{IsWanted};
-ghost use Rattle.ob_interface.specs.View.{reply_of};
 
 use crate::scalars::{Scalars, lay_scalars, read_scalars};
 use crate::{CodeCalls, Room};
@@ -73,28 +71,17 @@ pub enum Led {
     Nowhere,
 }
 
-/// Whether a reply is the one that is wanted.
-fn is_wanted(reply: &Reply, wanted: Wanted) -> bool
-    ensures { IsTrue result ↔ IsWanted wanted.entry (reply_of reply.now) }
-{
-    match (reply, wanted) {
-        (_, Wanted::Any) => true,
-        (Reply::Done(values), Wanted::Values(others)) => values.as_slice() == others,
-        (Reply::Trap(number), Wanted::Trap(other)) => *number == other,
-        _ => false,
-    }
-}
-
 impl ScalarCalls {
     ghost use Rattle.std.specs.Prelude.{List, IfOk, IfSome, map};
     ghost use Rattle.ob_checked.specs.Types.{Entry};
     ghost use Rattle.ob_checked.specs.View.{variable_of};
     ghost use Rattle.ob_code_calls.specs.Calls.{asked};
     ghost use Rattle.ob_code_calls.specs.Parts.{IsRoomFor};
-    ghost use Rattle.ob_code_calls.specs.Scalars.{IsCodeWith, IsMadeOf, IsMadeOn};
-    ghost use Rattle.ob_code_calls.specs.Wanted.{IsLed};
+    ghost use Rattle.ob_code_calls.specs.Scalars.{AreBehind, IsCodeWith, IsMadeOf, IsMadeOn};
+    ghost use Rattle.ob_code_calls.specs.Wanted.{IsLed, IsWanted, reply_behind};
     ghost use Rattle.ob_code_correct.specs.Parts.{IsCompiledTo};
     ghost use Rattle.ob_interface.specs.View.{reply_of};
+    ghost use Rattle.ob_interface.specs.declared.scalar.Scalar as Scalars;
     ghost use Rattle.ob_typing.specs.Program.{Program};
 
     /// Calls of this code, on states of so many words.
@@ -134,6 +121,7 @@ impl ScalarCalls {
 
     /// A call that is made on variables with these values: what it was made in, and its trap, where it traps; nothing where the values or
     /// the call are none of the module.
+    #[inline(always)]
     fn made(
         &self,
         variables: &[Variable],
@@ -157,6 +145,44 @@ impl ScalarCalls {
         }
         let (trap, _) = self.calls.make(&mut here.room, block, proc, arguments);
         Ok(Some((work, trap)))
+    }
+
+    /// The values of variables behind a call: those of the block that it has left, and where it traps those before it.
+    #[inline(always)]
+    fn left(
+        &self,
+        variables: &[Variable],
+        scalars: &[Scalar],
+        block: &[i64],
+        trap: Option<u8>,
+    ) -> Result<Option<Scalars>, NoMemory>
+        ensures { IfOk result (λ o. IfSome o (λ after. AreBehind variables.now scalars.now block.now trap after.items)) }
+    {
+        match trap {
+            Some(_) => Ok(Some(SmallVec::from_slice(self.alloc, scalars)?)),
+            None => read_scalars(self.alloc, variables, block),
+        }
+    }
+
+    /// Whether a call of an export has the reply that is wanted, of which the body has returned, or trapped so.
+    #[inline(always)]
+    fn is_wanted(
+        &self,
+        room: &mut Room,
+        proc: usize,
+        trap: Option<u8>,
+        wanted: Wanted,
+    ) -> bool
+        requires { IsRoomFor (parts_in self.now.calls) room.old }
+        ensures { (arguments : List Scalars.Scalar)
+            → IsTrue result ↔ IsWanted wanted.entry (reply_behind (parts_in self.now.calls) (asked proc arguments) room.old.run trap) }
+    {
+        match (wanted, trap) {
+            (Wanted::Any, _) => true,
+            (Wanted::Values(values), None) => self.calls.has_replied(room, proc, values),
+            (Wanted::Trap(number), Some(other)) => number == other,
+            _ => false,
+        }
     }
 
     /// What a call makes of variables with these values, and what it answers; nothing where the values or the call are none of the module.
@@ -206,18 +232,11 @@ impl ScalarCalls {
         let Some((mut work, trap)) = self.made(variables, scalars, proc, arguments)? else {
             return Ok(Led::Nowhere);
         };
-        if let Some(number) = trap {
-            self.work.set(Some(work));
-            if !is_wanted(&Reply::Trap(number), wanted) {
-                return Ok(Led::Elsewhere);
-            }
-            return Ok(Led::To(SmallVec::from_slice(self.alloc, scalars)?));
-        }
-        if !is_wanted(&self.calls.reply(&mut work.room, proc), wanted) {
+        if !self.is_wanted(&mut work.room, proc, trap, wanted) {
             self.work.set(Some(work));
             return Ok(Led::Elsewhere);
         }
-        let after = read_scalars(self.alloc, variables, work.block.as_slice())?;
+        let after = self.left(variables, scalars, work.block.as_slice(), trap)?;
         self.work.set(Some(work));
         match after {
             Some(after) => Ok(Led::To(after)),
