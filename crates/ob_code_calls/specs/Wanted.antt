@@ -4,6 +4,8 @@ use Rattle.ob_interface.specs.Call.{ObjectCall, Reply, Answers, Trapped}
 use Rattle.ob_interface.specs.declared.scalar.Scalar.{Scalar}
 use Rattle.ob_code_calls.specs.Calls.{meaning_of}
 use Rattle.ob_code_calls.specs.Scalars.{held_of}
+use Rattle.ob_code_calls.specs.declared.known_reply.KnownReply.{KnownReply}
+use Rattle.ob_code_calls.specs.declared.known_reply.KnownReply.TheVariants as Knowns
 use Rattle.ob_code_calls.specs.declared.scalar_calls.Led.{Led}
 use Rattle.ob_code_calls.specs.declared.scalar_calls.Led.TheVariants as Leds
 use Rattle.ob_code_calls.specs.declared.scalar_calls.Wanted.{Wanted}
@@ -18,6 +20,12 @@ use Rattle.wf_table.specs.Meaning.{kept}
 abbrev pub reply_behind : EngineParts → ObjectCall → Run → (trap : Option ℕ) → Reply
 reply_behind parts call run None = (meaning_of parts).reply call (kept (meaning_of parts) run)
 reply_behind parts call run (Some number) = Trapped number
+
+-- the reply that is known, if one is
+abbrev pub known_in : KnownReply → Option Reply
+known_in Knowns.Unknown = None
+known_in (Knowns.Values values) = Some (Answers values.items)
+known_in (Knowns.Trap number) = Some (Trapped number)
 
 -- the reply is the one that is wanted
 abbrev pub IsWanted : Wanted → Reply → Type 0

@@ -6,6 +6,7 @@
 
 pub mod block_calls;
 mod fitting_arguments;
+pub mod known_reply;
 mod noted_calls;
 pub mod room;
 mod running;
@@ -15,6 +16,7 @@ pub mod standing_state;
 mod wanted_values;
 
 pub use block_calls::CodeCalls;
+pub use known_reply::KnownReply;
 pub use room::Room;
 pub use scalar_calls::{Led, Request, ScalarCalls, Wanted};
 pub use standing_state::CodedState;

@@ -166,13 +166,7 @@ impl ScalarCalls {
 
     /// Whether a call of an export has the reply that is wanted, of which the body has returned, or trapped so.
     #[inline(always)]
-    fn is_wanted(
-        &self,
-        room: &mut Room,
-        proc: usize,
-        trap: Option<u8>,
-        wanted: Wanted,
-    ) -> bool
+    fn is_wanted(&self, room: &mut Room, proc: usize, trap: Option<u8>, wanted: Wanted) -> bool
         requires { IsRoomFor (parts_in self.now.calls) room.old }
         ensures { (arguments : List Scalars.Scalar)
             → IsTrue result ↔ IsWanted wanted.entry (reply_behind (parts_in self.now.calls) (asked proc arguments) room.old.run trap) }
@@ -214,6 +208,7 @@ impl ScalarCalls {
     }
 
     /// What comes of a call on variables with these values, of which a reply is wanted. Where it has another one, nothing is read.
+    #[inline(always)]
     pub fn led(
         &self,
         variables: &[Variable],

@@ -11,10 +11,9 @@ use crate::coding::module_code;
 use crate::kept_states::{KeptState, kept};
 use ob_carry::silent_exports::read_only_exports;
 use ob_checked::checked::Checked;
-use ob_code_calls::{Led, Request, ScalarCalls, Wanted};
+use ob_code_calls::{KnownReply, Led, Request, ScalarCalls};
 use ob_interface::NoMemory;
 use ob_interface::call::Reply;
-use ob_interface::scalar::Scalar;
 use ob_mean::call as interpreter;
 use ob_mean::outside_call::step;
 use ob_store::state::State;
@@ -88,69 +87,13 @@ fn object_reply(alloc: Global, reply: &interpreter::Reply) -> Result<Reply, Allo
 }
 
 impl<'a> ModuleObject<'a> {
-    ghost use Rattle.std.specs.Prelude.{IfOk, map, option_map};
+    ghost use Rattle.std.specs.Prelude.{IfOk, option_map};
     ghost use Rattle.ob_checked.specs.CheckedModule.{program_in};
-    ghost use Rattle.ob_code_calls.specs.Scalars.{held_of};
-    ghost use Rattle.ob_object_search.specs.Code.{HasCode, IsLedSo};
+    ghost use Rattle.ob_object_search.specs.Kept.{kept_in};
     ghost use Rattle.ob_object_search.specs.Objects.{LeadsTo, effect_in};
     ghost use Rattle.ob_interface.specs.View as Objects;
     ghost use Rattle.wf_history.specs.View.{seen_call, seen_reply};
-
-    /// What comes of a call by this code on scalars, where its reply is the one that is known, if one is.
-    fn led_by_code(
-        &self,
-        code: &ScalarCalls,
-        scalars: &[Scalar],
-        call: SeenCall,
-        known: Option<SeenReply>,
-    ) -> Result<Led, NoMemory>
-        requires { ∥ HasCode (program_in self.now.checked.now) self.now.budget code.now ∥₁ }
-        ensures { IfOk result (IsLedSo (effect_in self.now (seen_call call.entry)) (map held_of scalars.now) (option_map seen_reply known.entry)) }
-    {
-        let variables = self.checked.program().variables.as_slice();
-        let arguments = call.args.lent();
-        let proc = call.proc;
-        let arguments = arguments.as_slice();
-        let Some(reply) = known else {
-            let wanted = Wanted::Any;
-            return code.led(
-                variables,
-                scalars,
-                Request {
-                    proc,
-                    arguments,
-                    wanted,
-                },
-            );
-        };
-        match reply {
-            SeenReply::Trap(number) => {
-                let wanted = Wanted::Trap(number);
-                code.led(
-                    variables,
-                    scalars,
-                    Request {
-                        proc,
-                        arguments,
-                        wanted,
-                    },
-                )
-            }
-            SeenReply::Done(values) => {
-                let values = values.lent();
-                let wanted = Wanted::Values(values.as_slice());
-                code.led(
-                    variables,
-                    scalars,
-                    Request {
-                        proc,
-                        arguments,
-                        wanted,
-                    },
-                )
-            }
-        }
-    }
+    ghost use Rattle.wf_order.specs.Rules.{IsOutcome};
 
     /// What a call makes of a state by the interpreter, and what it answers. It stands apart, so that a call by code makes no room for it.
     #[inline(never)]
@@ -170,6 +113,30 @@ impl<'a> ModuleObject<'a> {
         let (next, reply) = step(alloc, self.checked.program(), before, &call, self.budget)?;
         let given = object_reply(alloc, &reply)?;
         Ok((kept(alloc, next.into_values())?, given))
+    }
+
+    /// What comes of a call by the interpreter, where its reply is the one that is known, if one is. It stands apart for the same reason.
+    #[inline(never)]
+    fn outcome_by_tree(
+        &self,
+        alloc: Global,
+        state: &KeptState,
+        call: SeenCall,
+        known: Option<SeenReply>,
+    ) -> Result<Option<KeptState>, NoMemory>
+        ensures { IfOk result (λ to. IsOutcome (effect_in self.now (seen_call call.entry)) (kept_in state.now) (option_map seen_reply known.entry) (option_map kept_in to)) }
+    {
+        let (next, reply) = self.called_by_tree(alloc, state, call)?;
+        match known {
+            None => Ok(Some(next)),
+            Some(other) => {
+                if is_same_reply(&reply, other) {
+                    Ok(Some(next))
+                } else {
+                    Ok(None)
+                }
+            }
+        }
     }
 }
 
@@ -229,23 +196,23 @@ impl<'a> Object for ModuleObject<'a> {
         if let Some(code) = &self.code
             && let KeptState::Scalars(scalars) = state
         {
-            match self.led_by_code(code, scalars.as_slice(), call, known)? {
+            let variables = self.checked.program().variables.as_slice();
+            let scalars = scalars.as_slice();
+            let arguments = call.args.lent();
+            let reply = KnownReply::new(known);
+            let request = Request {
+                proc: call.proc,
+                arguments: arguments.as_slice(),
+                wanted: reply.wanted(),
+            };
+            let led = code.led(variables, scalars, request)?;
+            match led {
                 Led::To(after) => return Ok(Some(KeptState::Scalars(after))),
                 Led::Elsewhere => return Ok(None),
                 Led::Nowhere => {}
             }
         }
-        let (next, reply) = self.called_by_tree(alloc, state, call)?;
-        match known {
-            None => Ok(Some(next)),
-            Some(other) => {
-                if is_same_reply(&reply, other) {
-                    Ok(Some(next))
-                } else {
-                    Ok(None)
-                }
-            }
-        }
+        self.outcome_by_tree(alloc, state, call, known)
     }
 
     fn copy(&self, alloc: Global, state: &KeptState) -> Result<KeptState, NoMemory> {

@@ -13,7 +13,7 @@ returns-in-Some c = λ arguments.
     let m = meaning_of c.args.engine.now.parts in
     let ws = map (m.result c.args.run.now) (range_with_len 0 m.replies) in
     let same = ap (λ (fs : List Formal). values_of fs c.note_results.new.words) (c.parameters.ensures ∙ ap parameters_of c.in-Some.ensures)
-        ∙ ap (λ (words : List ℤ). values_of (parameters_of (slice_get exports c.args.proc)) words) c.note_results.ensures in
+    ∙ ap (λ (words : List ℤ). values_of (parameters_of (slice_get exports c.args.proc)) words) c.note_results.ensures in
     replied_so c.are_values_of.result _ (values_of (parameters_of (slice_get exports c.args.proc)) ws) c.args.values.now same c.are_values_of.ensures
 
 pub returns-in-None : goal.returns-in-None

@@ -1,37 +1,55 @@
 -- By the code, where there is any.
-use Rattle.std.proofs.Common.{◌≡◌, ap, subst, sym}
-use Rattle.std.specs.Prelude.{Option, IfSome, option_map}
+use Rattle.std.proofs.Common.{◌≡◌, ◌∙◌, ap, subst, sym, List, map}
+use Rattle.std.specs.Prelude.{Option, IfSome, option_map, ◌↔◌}
+use Rattle.std.proofs.Math.Logic.{∥∥₁_map}
 use Rattle.ob_checked.specs.CheckedModule.{program_in}
+use Rattle.ob_checked.specs.View.{table_of}
+use Rattle.ob_code_calls.specs.Calls.{asked}
+use Rattle.ob_code_calls.specs.Scalars.{held_of}
+use Rattle.ob_code_calls.specs.Wanted.{IsWanted}
 use Rattle.ob_code_calls.specs.declared.scalar_calls.ScalarCalls.{ScalarCalls}
 use Rattle.ob_interface.specs.Call.{Reply}
-use Rattle.ob_interface.specs.View.{reply_of}
+use Rattle.ob_interface.specs.declared.scalar.Scalar.{Scalar}
 use Rattle.ob_object_search.specs.Code.{IsCodeOf}
 use Rattle.ob_object_search.specs.Kept.{kept_in}
-use Rattle.wf_history.specs.View.{seen_reply}
+use Rattle.ob_object_search.proofs.ByCode.{led_as, variables_are}
+use Rattle.wf_history.specs.View.{seen_call, seen_reply}
 use Rattle.ob_object_search.proofs.instance.ModuleObjectObject.outcome.Goals as goal
 
-pub led_by_code-requires : goal.led_by_code-requires
-led_by_code-requires c =
+pub led-requires : goal.led-requires
+led-requires c =
     let o = c.args.self.now in
-    subst (λ (code : Option ScalarCalls). ∥ IsCodeOf (program_in o.checked.now) o.budget code ∥₁) c.in-Some.is o.coded
+    let program = program_in o.checked.now in
+    let are = variables_are c.program.result.now program c.as_slice-variables.result.now c.program.ensures.program c.as_slice-variables.ensures.value in
+    ∥∥₁_map (subst (λ (code : Option ScalarCalls). ∥ IsCodeOf program o.budget code ∥₁) c.in-Some.is o.coded)
+    (λ h. record { program = program; types = table_of c.program.result.now.types; compiled = h.compiled; are = are })
 
-pub returns-in-None : goal.returns-in-None
-returns-in-None c =
-    let known = ap (option_map seen_reply) c.in-None.is in
-    (reply_of c.in_ok-next.reply, c.in_ok-next.ensures, subst (λ (k : Option Reply). IfSome k (λ r. r ≡ reply_of c.in_ok-next.reply)) (sym known) tt)
+pub returns-in-To : goal.returns-in-To
+returns-in-To c =
+    let o = c.args.self.now in
+    let program = program_in o.checked.now in
+    let code = c.in-Some.code in
+    let types = table_of c.program.result.now.types in
+    let are = variables_are c.program.result.now program c.as_slice-variables.result.now c.program.ensures.program c.as_slice-variables.ensures.value in
+    let coded = subst (λ (code : Option ScalarCalls). ∥ IsCodeOf program o.budget code ∥₁) c.in-Some.is o.coded in
+    let same = ap (asked c.args.call.proc) (c.as_slice.ensures ∙ c.lent-arguments.ensures) in
+    let wanted = c.wanted.result in
+    let is = subst (λ (k : Option Reply). (r : Reply) → IsWanted wanted r ↔ IfSome k (λ x. x ≡ r)) c.new-reply.ensures c.wanted.ensures in
+    let holds = ap (λ (ss : List Scalar). map held_of ss) c.as_slice-scalars.ensures ∙ sym (ap kept_in c.in-Scalars.is) in
+    led_as program o.budget code coded (asked c.args.call.proc c.as_slice.result.now) (seen_call c.args.call) same c.as_slice-scalars.result.now wanted (option_map seen_reply c.args.known) is
+    (kept_in c.args.state.now) holds c.in_ok-led.led (λ has. c.in_ok-led.ensures program types has.compiled are) _ c.in-To.is
 
-pub returns-then-is_same_reply : goal.returns-then-is_same_reply
-returns-then-is_same_reply c =
-    let known = ap (option_map seen_reply) c.in-Some-known.is in
-    let same = c.is_same_reply.ensures.0 c.if-is_same_reply.true in
-    (reply_of c.in_ok-next.reply, c.in_ok-next.ensures, subst (λ (k : Option Reply). IfSome k (λ r. r ≡ reply_of c.in_ok-next.reply)) (sym known) (sym same))
-
-pub returns-else-is_same_reply : goal.returns-else-is_same_reply
-returns-else-is_same_reply c = (
-  kept_in c.in_ok-next.next,
-  reply_of c.in_ok-next.reply,
-  c.in_ok-next.ensures,
-  seen_reply c.in-Some-known.other,
-  ap (option_map seen_reply) c.in-Some-known.is,
-  (λ e. let t = c.is_same_reply.ensures.1 (sym e) in let f = c.if-is_same_reply.false in absurd (cc)),
-)
+pub returns-in-Elsewhere : goal.returns-in-Elsewhere
+returns-in-Elsewhere c =
+    let o = c.args.self.now in
+    let program = program_in o.checked.now in
+    let code = c.in-Some.code in
+    let types = table_of c.program.result.now.types in
+    let are = variables_are c.program.result.now program c.as_slice-variables.result.now c.program.ensures.program c.as_slice-variables.ensures.value in
+    let coded = subst (λ (code : Option ScalarCalls). ∥ IsCodeOf program o.budget code ∥₁) c.in-Some.is o.coded in
+    let same = ap (asked c.args.call.proc) (c.as_slice.ensures ∙ c.lent-arguments.ensures) in
+    let wanted = c.wanted.result in
+    let is = subst (λ (k : Option Reply). (r : Reply) → IsWanted wanted r ↔ IfSome k (λ x. x ≡ r)) c.new-reply.ensures c.wanted.ensures in
+    let holds = ap (λ (ss : List Scalar). map held_of ss) c.as_slice-scalars.ensures ∙ sym (ap kept_in c.in-Scalars.is) in
+    led_as program o.budget code coded (asked c.args.call.proc c.as_slice.result.now) (seen_call c.args.call) same c.as_slice-scalars.result.now wanted (option_map seen_reply c.args.known) is
+    (kept_in c.args.state.now) holds c.in_ok-led.led (λ has. c.in_ok-led.ensures program types has.compiled are) _ c.in-Elsewhere.is
