@@ -22,7 +22,7 @@ use Rattle.ob_typing.specs.Program.{Program}
 use Rattle.wf_history.specs.History.{Event, own_events}
 use Rattle.wf_history.specs.Legal.{IsLegal}
 use Rattle.wf_history.specs.declared.event.CallId.{CallId}
-use Rattle.wf_order.specs.Needed.{IsOpen}
+use Rattle.wf_needed.specs.Needed.{IsOpen}
 use Rattle.wf_order.proofs.Bounds.{enough_more}
 use Rattle.wf_order.specs.Verdict.{HasLegal, HasMoreFront, enough}
 

@@ -23,7 +23,7 @@ use Rattle.ob_typing.specs.Program.{Program}
 use Rattle.wf_history.specs.History.{Event}
 use Rattle.wf_history.specs.Legal.{IsLegal}
 use Rattle.wf_history.specs.declared.event.CallId.{CallId}
-use Rattle.wf_order.specs.Needed.{NoneIsNeedless}
+use Rattle.wf_needed.specs.Needed.{NoneIsNeedless}
 
 module _ (program : Program) (text : List ℕ) (asked : Option ℕ) (h : Rust.Heard) (heard : IsHeard program text asked h) where
   -- a process is over 15

@@ -12,7 +12,7 @@ use Rattle.wf_history.proofs.Positions.{contains_at, place_behind, place_here, p
 use Rattle.wf_history.specs.declared.event.CallId.{CallId}
 use Rattle.wf_history.specs.History.{Event, Begin, Applied, End, Before}
 use Rattle.wf_history.specs.Legal.{HasBegun, IsLegal, NoRepeats, OneAtATime, RepliesAgree, more, none}
-use Rattle.wf_order.specs.Needed.{NoneIsNeedless}
+use Rattle.wf_needed.specs.Needed.{NoneIsNeedless}
 use Rattle.wf_order.proofs.Places.{before_at, places_before}
 use Rattle.wf_order.specs.Verdict.{HasLegal, IsLastLegal}
 

@@ -11,7 +11,7 @@ use Rattle.wf_history.proofs.Positions.{contains_at, place_of, place_take, same_
 use Rattle.wf_history.specs.declared.event.CallId.{CallId}
 use Rattle.wf_history.specs.History.{Event, Begin, Applied, End}
 use Rattle.wf_history.specs.Legal.{IsLegal}
-use Rattle.wf_order.specs.Needed.{NoneIsNeedless}
+use Rattle.wf_needed.specs.Needed.{NoneIsNeedless}
 use Rattle.wf_order.specs.Rows.{row_of}
 use Rattle.wf_order.specs.Verdict.{HasLegal, IsLastLegal}
 use Rattle.wf_order.proofs.Lists.{map-map}

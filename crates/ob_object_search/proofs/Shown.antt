@@ -26,7 +26,7 @@ use Rattle.wf_history.proofs.Positions.{contains_at}
 use Rattle.wf_history.specs.History.{Event, End}
 use Rattle.wf_history.specs.Legal.{IsLegal}
 use Rattle.wf_history.specs.declared.event.CallId.{CallId}
-use Rattle.wf_order.specs.Needed.{NoneIsNeedless}
+use Rattle.wf_needed.specs.Needed.{NoneIsNeedless}
 use Rattle.wf_order.specs.Verdict.{HasLegal}
 
 module _ (names : List ℕ) (apart : AreApart names) (history : List (Event ObjectCall Reply)) (below : AreBelow (length names) history) where

@@ -14,7 +14,7 @@ use Rattle.wf_order.specs.Beginnings.{open_calls}
 use Rattle.wf_history.specs.History.{Event, End}
 use Rattle.wf_history.specs.Legal.{IsLegal}
 use Rattle.wf_history.specs.declared.event.CallId.{CallId}
-use Rattle.wf_order.specs.Needed.{NoneIsNeedless}
+use Rattle.wf_needed.specs.Needed.{NoneIsNeedless}
 use Rattle.wf_order.specs.Verdict.{HasLegal}
 
 -- the call does not end

@@ -11,7 +11,7 @@ use Rattle.ob_typing.specs.Program.{Program}
 use Rattle.wf_history.specs.declared.event.CallId.{CallId}
 use Rattle.wf_history.specs.History.{Event}
 use Rattle.wf_history.specs.Legal.{IsLegal}
-use Rattle.wf_order.specs.Needed.{NoneIsNeedless}
+use Rattle.wf_needed.specs.Needed.{NoneIsNeedless}
 use Rattle.wf_order.specs.Verdict.{HasMoreFront, enough}
 
 -- by what calls with a budget do from a state

@@ -12,7 +12,7 @@ use Rattle.ob_text_reading.specs.Names.{AreBelow, named_all, named_id}
 use Rattle.ob_typing.specs.Program.{Program}
 use Rattle.wf_history.specs.declared.event.CallId.{CallId}
 use Rattle.wf_history.specs.Legal.{IsLegal}
-use Rattle.wf_order.specs.Needed.{NoneIsNeedless}
+use Rattle.wf_needed.specs.Needed.{NoneIsNeedless}
 use Rattle.wf_order.specs.Verdict.{HasMoreFront}
 use Rattle.wf_parts.specs.Numbering.{AreNumbered, PartView, value_of, whole_events, whole_id}
 use Rattle.wf_parts.specs.Parts.{Events, IsShort}

@@ -10,7 +10,7 @@ use Rattle.ob_typing.specs.ModuleText.{IsModule}
 use Rattle.ob_typing.specs.Program.{Program}
 use Rattle.wf_history.specs.declared.event.CallId.{CallId}
 use Rattle.wf_history.specs.Legal.{IsLegal}
-use Rattle.wf_order.specs.Needed.{NoneIsNeedless}
+use Rattle.wf_needed.specs.Needed.{NoneIsNeedless}
 use Rattle.wf_parts.specs.Parts.{AreValues, Events, IsPart}
 
 -- an order of the calls that have this value

@@ -9,7 +9,7 @@ use Rattle.ob_typing.specs.ModuleText.{IsModule}
 use Rattle.ob_typing.specs.Program.{Program}
 use Rattle.wf_history.specs.declared.event.CallId.{CallId}
 use Rattle.wf_history.specs.Legal.{IsLegal}
-use Rattle.wf_order.specs.Needed.{IsOpen}
+use Rattle.wf_needed.specs.Needed.{IsOpen}
 use Rattle.wf_order.specs.Verdict.{enough}
 
 -- how many turns each call has: so many as are asked for, or else as the history tells, or else this many

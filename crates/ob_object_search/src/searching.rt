@@ -24,7 +24,8 @@ use std::alloc::{AllocError, Global};
 use std::hash::RandomState;
 use thiserror::Error;
 use wf_history::{CallId, History};
-use wf_order::{Verdict, find_order, needed_order};
+use wf_needed::needed_order;
+use wf_order::{Verdict, find_order};
 
 /// What a search is to go by.
 #[derive(Clone, Copy)]

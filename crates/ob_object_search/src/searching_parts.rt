@@ -30,7 +30,8 @@ use ob_scan::scanner::LONGEST_TEXT;
 use ob_text_reading::read_history;
 use std::alloc::Global;
 use wf_history::{CallId, History};
-use wf_order::{Verdict, find_order, needed_order};
+use wf_needed::needed_order;
+use wf_order::{Verdict, find_order};
 use wf_parts::parts_of;
 
 /// A legal order of the calls that have this value as an argument, by the names that the history has for them.

@@ -10,18 +10,14 @@ pub mod Exchange
 pub mod Fronts
 pub mod Keeping
 pub mod LeftOut
-mod Legality
 pub mod Limits
 pub mod Lists
 pub mod Nexts
 pub mod Noting
 pub mod OpenCalls
 pub mod Places
-mod Placing
 pub mod Replacing
 pub mod Remembering
-mod Replaying
-mod Rounds
 pub mod Rowing
 pub mod Searching
 pub mod Soundness

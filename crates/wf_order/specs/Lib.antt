@@ -1,8 +1,6 @@
 pub mod Beginnings
 pub mod Fronts
-pub mod Listed
 pub mod MadeCalls
-pub mod Needed
 pub mod Rows
 pub mod Rules
 pub mod Search

@@ -2,10 +2,8 @@
 //! they lead to. None is gone over twice. A call that only reads is passed over, one that leaves the state as it is comes first and alone, of
 //! equal calls only one is tried, and an open call not where all that may come behind it comes without it too.
 //!
-//! An order that is found is then cut down to the open calls that it needs.
-//!
-//! One may rely on the clauses of `find_order` (`specs/Verdict.antt`), `needed_order` (`specs/Needed.antt`), `open_calls` and
-//! `process_count`. In which order steps are tried, and which open calls are left out where not all can be, may change without asking.
+//! One may rely on the clauses of `find_order` (`specs/Verdict.antt`), `open_calls` and `process_count`. In which order steps are tried may change
+//! without asking. An order that is found is cut down to the open calls that it needs by wf_needed.
 #![tactic(auto)]
 
 mod attempt;
@@ -15,15 +13,13 @@ pub mod counted_processes;
 pub mod find;
 mod front;
 pub mod keys;
-mod listed_calls;
 mod made_calls;
-pub mod needed;
 mod next_call;
 pub mod opened;
 mod passing;
 mod quiet;
-mod replay;
 pub mod rows;
+pub mod same_states;
 mod search;
 pub mod searched_object;
 mod seen;
@@ -33,6 +29,5 @@ mod without;
 
 pub use counted_processes::process_count;
 pub use find::{Verdict, find_order};
-pub use needed::needed_order;
 pub use opened::open_calls;
 pub use searched_object::Object;

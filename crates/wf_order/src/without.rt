@@ -7,7 +7,7 @@ ghost use Rattle.wf_history.specs.View.{seen_call, seen_reply};
 ghost use Rattle.wf_order.specs.Rules.{AreIdle, IsAlike, IsSameOutcome};
 ghost use Rattle.wf_order.specs.Search.{found_in, IsAt, IsNextStep};
 
-use crate::replay::are_same;
+use crate::same_states::are_same;
 use crate::searched_object::Object;
 use crate::seen::Seen;
 use crate::step::{Here, Task, one_more};

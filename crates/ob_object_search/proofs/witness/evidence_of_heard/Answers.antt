@@ -18,7 +18,7 @@ use Rattle.wf_order.specs.Beginnings.{open_calls}
 use Rattle.wf_history.specs.History.{Event, End, IsHistory}
 use Rattle.wf_history.specs.Legal.{IsLegal}
 use Rattle.wf_history.specs.View.{event_of}
-use Rattle.wf_order.specs.Needed.{NoneIsNeedless}
+use Rattle.wf_needed.specs.Needed.{NoneIsNeedless}
 use Rattle.wf_order.proofs.Turns.{take_whole}
 use Rattle.ob_object_search.proofs.witness.evidence_of_heard.Goals as goal
 

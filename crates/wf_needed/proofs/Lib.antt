@@ -1,0 +1,4 @@
+mod Legality
+mod Placing
+mod Replaying
+mod Rounds
