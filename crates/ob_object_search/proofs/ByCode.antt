@@ -127,7 +127,7 @@ module _ (program : Program) (budget : ℕ) (code : ScalarCalls) (has : ∥ HasC
   led_so Leds.Nowhere f = tt
 
   -- the same of the state that holds the scalars, and of what comes of the call by another name
-  pub led_as : (state : Activation) → map held_of scalars ≡ state → (led : Led) → (HasCode program budget code → IsLed program (parts_in code.calls) asked scalars wanted led) → (as : Led) → led ≡ as →
-      IsLedSo (CallEnds program budget call) state known as
-  led_as state holds led f as named =
+  pub led_as : (state : Activation) → map held_of scalars ≡ state → (led : Led) → (HasCode program budget code → IsLed program (parts_in code.calls) asked scalars wanted led) → (came : Led) → led ≡ came →
+      IsLedSo (CallEnds program budget call) state known came
+  led_as state holds led f came named =
       subst (λ (l : Led). IsLedSo (CallEnds program budget call) state known l) named (subst (λ (s : Activation). IsLedSo (CallEnds program budget call) s known led) holds (led_so led f))

@@ -13,7 +13,7 @@ returns-in-None c =
 
 pub returns-then-is_same_reply : goal.returns-then-is_same_reply
 returns-then-is_same_reply c =
-    let known = ap (option_map seen_reply) c.in-Some-known.is in
+    let known = ap (option_map seen_reply) c.in-Some.is in
     let same = c.is_same_reply.ensures.0 c.if-is_same_reply.true in
     (reply_of c.in_ok-next.reply, c.in_ok-next.ensures, subst (λ (k : Option Reply). IfSome k (λ r. r ≡ reply_of c.in_ok-next.reply)) (sym known) (sym same))
 
@@ -22,7 +22,7 @@ returns-else-is_same_reply c = (
   kept_in c.in_ok-next.next,
   reply_of c.in_ok-next.reply,
   c.in_ok-next.ensures,
-  seen_reply c.in-Some-known.other,
-  ap (option_map seen_reply) c.in-Some-known.is,
+  seen_reply c.in-Some.other,
+  ap (option_map seen_reply) c.in-Some.is,
   (λ e. let t = c.is_same_reply.ensures.1 (sym e) in let f = c.if-is_same_reply.false in absurd (cc)),
 )
