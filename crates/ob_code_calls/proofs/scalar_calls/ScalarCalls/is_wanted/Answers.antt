@@ -1,5 +1,5 @@
 -- The reply that is wanted is compared with that of the call.
-use Rattle.std.proofs.Common.{◌≡◌, ap, sym, subst, ◌∙◌}
+use Rattle.std.proofs.Common.{◌≡◌, sym, subst}
 use Rattle.std.specs.Prelude.{ℕ, Option, IsTrue, ◌↔◌}
 use Rattle.ob_code_calls.specs.Calls.{asked}
 use Rattle.ob_code_calls.specs.Parts.{parts_in}
