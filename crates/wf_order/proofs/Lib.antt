@@ -22,6 +22,7 @@ pub mod Rowing
 pub mod Searching
 pub mod Soundness
 pub mod Stepping
+pub mod Taken
 pub mod Turning
 pub mod Turns
 pub mod Weights

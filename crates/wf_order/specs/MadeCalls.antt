@@ -7,7 +7,7 @@ use Rattle.wf_order.specs.declared.made_calls.MadeCall.{MadeCall}
 use Rattle.wf_order.specs.declared.made_calls.MadeCalls.{MadeCalls}
 
 -- what stands at this row is the call, made on the state with these words
-pub record IsAt {S : Type 0} (calls : MadeCalls S) (row : ℕ) (words : List ℕ) (call : ObjectCall) (made : MadeCall S) : Type 0 where
+pub record StandsAt {S : Type 0} (calls : MadeCalls S) (row : ℕ) (words : List ℕ) (call : ObjectCall) (made : MadeCall S) : Type 0 where
   pub at : get_or calls.rows.items row None ≡ Some made
   pub words_are : made.words.items ≡ words
   pub call_is : seen_call made.call ≡ call
@@ -16,7 +16,7 @@ pub record IsAt {S : Type 0} (calls : MadeCalls S) (row : ℕ) (words : List ℕ
 pub record IsOtherwise {S : Type 0} (calls : MadeCalls S) (words : List ℕ) (call : ObjectCall) (reply : Reply) : Type 0 where
   pub row : ℕ
   pub made : MadeCall S
-  pub is : IsAt calls row words call made
+  pub is : StandsAt calls row words call made
   pub other : ¬ (reply_of made.reply ≡ reply)
 
 -- the call, made on the state, has this reply where it is so, and else another one

@@ -43,6 +43,10 @@ pub record AreTurns (rows : Rows) (counts : List ℕ) (processes from limit : �
   pub own : (turn : Turn) → Contains turns turn →
       (begun : Begun) × (turn.process < processes) × IsNext rows counts turn.process begun × (begun.place ≡ turn.place) × (from ≤ turn.place) × (turn.place < limit)
 
+-- the turns are the next calls that begin before the limit, and at a place no later than this one or behind it
+abbrev pub ReachFrom : Rows → List ℕ → (from limit : ℕ) → List Turn → Type 0
+ReachFrom rows counts from limit turns = (low : ℕ) × (low ≤ from) × AreTurns rows counts (length counts) low limit turns
+
 -- Of the turns at a place or behind it, and before the limit, this one comes first; where there is none, its place is the limit.
 pub record IsFirstIn (turns : List Turn) (from limit : ℕ) (turn : Turn) : Type 0 where
   pub within : turn.place ≤ limit

@@ -7,7 +7,7 @@ ghost use Rattle.wf_order.specs.MadeCalls.{AreMade};
 ghost use Rattle.wf_order.specs.Rules.{AreIdle};
 ghost use Rattle.wf_order.specs.Search.{found_in, AreAllAnswered, AreAnswered, AreCovered, HasNoStep, IsAt, IsChoice, IsNextStep, IsTry, IsWorded};
 ghost use Rattle.wf_order.specs.Steps.{Configuration};
-ghost use Rattle.wf_order.specs.Turns.{AreTurns, IsNextOf};
+ghost use Rattle.wf_order.specs.Turns.{IsNextOf, ReachFrom};
 
 use crate::behind::is_behind;
 use crate::made_calls::{MadeCalls, replies_otherwise, replies_so};
@@ -166,7 +166,7 @@ fn next_place<O: Object>(
     tried: &Next,
     calls: &MadeCalls<O::State>,
 ) -> usize
-    requires turns { (low : ℕ) × (low ≤ tried.now.begun.place) × AreTurns task.now.rows.now here.now.found.now.counts.items (length here.now.found.now.counts.items) low here.now.limit turns.now }
+    requires turns { ReachFrom task.now.rows.now here.now.found.now.counts.items tried.now.begun.place here.now.limit turns.now }
     requires early { tried.now.begun.place < here.now.limit }
     requires worded { IsWorded O.meaning O.words_of here.now.found.now }
     requires made { AreMade O.meaning O.words_of (O.effect task.now.object.now) calls.now }

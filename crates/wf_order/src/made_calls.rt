@@ -3,7 +3,7 @@
 ghost use Rattle.std.specs.Prelude.{◌≡◌, ◌<◌, Some, None, get_or, replicate, IfOk, IfSome, OnOk, IsTrue, option_copied, option_map, slice_set, vec_len};
 ghost use Rattle.ob_interface.specs.View.{reply_of};
 ghost use Rattle.wf_history.specs.View.{seen_call, seen_reply};
-ghost use Rattle.wf_order.specs.MadeCalls.{AreMade, HasMade, IsAsked, IsAt, IsOtherwise};
+ghost use Rattle.wf_order.specs.MadeCalls.{AreMade, HasMade, IsAsked, StandsAt, IsOtherwise};
 ghost use Rattle.wf_order.specs.Rules.{IsOutcome};
 ghost use Rattle.wf_order.specs.Search.{IsWorded};
 
@@ -114,7 +114,7 @@ fn found_at<'c, 'a, S>(
     words: &[u64],
     call: SeenCall,
 ) -> Option<&'c MadeCall<'a, S>>
-    ensures { IfSome result (λ made. IsAt calls.now row words.now (seen_call call.entry) made.now) }
+    ensures { IfSome result (λ made. StandsAt calls.now row words.now (seen_call call.entry) made.now) }
 {
     let made = made_at(calls, row)?;
     if made.words.as_slice() != words || !is_same_call(made.call, call) {

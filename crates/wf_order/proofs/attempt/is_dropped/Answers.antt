@@ -11,13 +11,8 @@ use Rattle.wf_order.specs.Search.{found_in}
 use Rattle.wf_order.proofs.Attempts.{behind_answered, none_answered}
 use Rattle.wf_order.proofs.Replacing.{process_behind}
 use Rattle.wf_order.proofs.Stepping.{none_agrees}
+use Rattle.wf_order.proofs.Taken.{taken_is, within_is}
 use Rattle.wf_order.proofs.attempt.is_dropped.Goals as goal
-
-taken_is : (xs ys : List ℕ) (p x : ℕ) → true ≡ nat_lt p (length xs) → x ≡ get_or xs p x → xs ≡ ys → x ≡ get_or ys p 0
-taken_is xs ys p x t h e = get_or_read xs p x (ltb-true p (length xs) (sym t)) h 0 ∙ ap (λ (l : List ℕ). get_or l p 0) e
-
-within_is : (xs ys : List ℕ) (p : ℕ) → true ≡ nat_lt p (length xs) → xs ≡ ys → p < length ys
-within_is xs ys p t e = subst (λ (l : List ℕ). p < length l) e (ltb-true p (length xs) (sym t))
 
 pub returns-then-is_sooner : goal.returns-then-is_sooner
 returns-then-is_sooner g c = λ history found at yes.

@@ -9,10 +9,8 @@ use Rattle.wf_order.specs.Rules.{AreAlike}
 use Rattle.wf_order.specs.Search.{found_in, HasNoStep, IsNextStep}
 use Rattle.wf_order.specs.Steps.{one_more}
 use Rattle.wf_order.proofs.Replacing.{alike_behind}
+use Rattle.wf_order.proofs.Taken.{taken_is}
 use Rattle.wf_order.proofs.behind.is_behind_any.Goals as goal
-
-taken_is : (xs ys : List ℕ) (p x : ℕ) → true ≡ nat_lt p (length xs) → x ≡ get_or xs p x → xs ≡ ys → x ≡ get_or ys p 0
-taken_is xs ys p x t h e = get_or_read xs p x (ltb-true p (length xs) (sym t)) h 0 ∙ ap (λ (l : List ℕ). get_or l p 0) e
 
 pub returns-in-Some-2-clause-behind : goal.returns-in-Some-2-clause-behind
 returns-in-Some-2-clause-behind g c = λ history at.

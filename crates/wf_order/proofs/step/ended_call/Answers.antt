@@ -4,13 +4,8 @@ use Rattle.std.specs.Prelude.{nat_lt, slice_get}
 use Rattle.std.proofs.lemmas.Bool.{ltb-true}
 use Rattle.std.proofs.lemmas.List.{get_or_read}
 use Rattle.wf_order.specs.Rows.{begun_rows, ended_rows, row_of}
+use Rattle.wf_order.proofs.Taken.{taken_is, within_is}
 use Rattle.wf_order.proofs.step.ended_call.Goals as goal
-
-taken_is : (xs ys : List ℕ) (p x : ℕ) → true ≡ nat_lt p (length xs) → x ≡ get_or xs p x → xs ≡ ys → x ≡ get_or ys p 0
-taken_is xs ys p x t h e = get_or_read xs p x (ltb-true p (length xs) (sym t)) h 0 ∙ ap (λ (l : List ℕ). get_or l p 0) e
-
-within_is : (xs ys : List ℕ) (p : ℕ) → true ≡ nat_lt p (length xs) → xs ≡ ys → p < length ys
-within_is xs ys p t e = subst (λ (l : List ℕ). p < length l) e (ltb-true p (length xs) (sym t))
 
 pub returns : goal.returns
 returns g c =

@@ -24,5 +24,5 @@ returns g c =
     let there = subst (λ (o : Option g.row.O-State.Denot). IsOutcome effect behind known (option_map g.O.Object.meaning o)) c.in-Some.is c.in_ok-after.ensures in
     let other = subst (λ (o : Option g.row.O-State.Denot). IsOutcome effect here known (option_map g.O.Object.meaning o)) c.in-Some-2.is c.in_ok-other.ensures in
     IfOk-weaker c.are_same.result _ _
-    (λ same h t. same_some effect (g.met.O.Object.determined c.args.task.now.object.now call) here behind known (g.O.Object.meaning c.in-Some.after) (g.O.Object.meaning c.in-Some-2.other) there other (h t))
+    (λ same h t. same_some effect (g.met.O.Object.determined c.args.task.now.object.now call) here behind known (g.O.Object.meaning c.in-Some.after) (g.O.Object.meaning c.in-Some-2.other) there other (h.0 t))
     c.are_same.ensures

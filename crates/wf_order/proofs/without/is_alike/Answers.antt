@@ -10,10 +10,8 @@ use Rattle.wf_history.specs.View.{seen_call, seen_reply}
 use Rattle.wf_order.specs.Rules.{IsSameOutcome}
 use Rattle.wf_order.specs.Search.{found_in}
 use Rattle.wf_order.proofs.LeftOut.{alike_late, alike_none, alike_outcome, alike_own, alike_reader}
+use Rattle.wf_order.proofs.Taken.{taken_is}
 use Rattle.wf_order.proofs.without.is_alike.Goals as goal
-
-taken_is : (xs ys : List ℕ) (p x : ℕ) → true ≡ nat_lt p (length xs) → x ≡ get_or xs p x → xs ≡ ys → x ≡ get_or ys p 0
-taken_is xs ys p x t h e = get_or_read xs p x (ltb-true p (length xs) (sym t)) h 0 ∙ ap (λ (l : List ℕ). get_or l p 0) e
 
 none_mapped : {A B : Type 0} (f : A → B) (o : Option A) → option_map f o ≡ None → o ≡ None
 none_mapped f None e = cc
