@@ -65,7 +65,7 @@ pub(crate) fn is_behind<'a, O: Object>(
     ensures behind { (history : List (Event ObjectCall Reply)) → IsAt history task.now.rows.now here.now
         → IfOk result (λ behind. IsTrue behind → AreBehind (O.effect task.now.object.now) history (found_in O.meaning here.now.found.now) next.now.process) }
 {
-    if has_sooner(task.rows, here, next) {
+    if has_sooner(task, here, next) {
         return Ok(true);
     }
     if next.ended.is_some() {

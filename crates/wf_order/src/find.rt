@@ -11,8 +11,8 @@ ghost use Rattle.wf_order.specs.Search.{all_counts, all_found, AreWorded, IsAnsw
 ghost use Rattle.wf_order.specs.Verdict.{HasLegal, IsBetween, IsHalved, IsLastFound, IsVerdict, enough};
 
 use crate::front::{Front, farthest_of, frames_behind, go_on};
+use crate::hints::Hints;
 use crate::keys::Keys;
-use crate::quiet::Quiet;
 use crate::rows::{Rows, processes_of, rows_of};
 use crate::search::{Answer, search};
 use crate::searched_object::Object;
@@ -36,12 +36,12 @@ pub enum Verdict {
 }
 
 /// A history of so many processes on an object, with its rows and its silent calls, and the most configurations to be looked at.
-#[derive_where(Clone, Copy)]
+#[derive(Drop)]
 struct Question<'r, 'a, O> {
     alloc: Global,
     events: &'a [Event],
     rows: &'r Rows<'a>,
-    quiet: &'r Quiet,
+    hints: &'r Hints,
     object: &'a O,
     processes: usize,
     most: usize,
@@ -65,7 +65,7 @@ fn front_answer<O: Object>(question: &Question<O>, count: usize) -> Result<Answe
         events,
         object: question.object,
         rows: &rows,
-        quiet: question.quiet,
+        hints: question.hints,
     };
     let mut seen = Seen::with_hasher(alloc, Keys::new(question.keys));
     search(&task, &mut seen, processes, question.most)
@@ -98,7 +98,7 @@ fn front_by_found<O: Object>(
         events,
         object: question.object,
         rows: &rows,
-        quiet: question.quiet,
+        hints: question.hints,
     };
     let size = seen.len();
     let stack = frames_behind(alloc, question.rows, seen, count)?;
@@ -229,7 +229,7 @@ fn verdict_of<O: Object>(question: &Question<O>) -> Result<Verdict, NoMemory>
         events: question.events,
         object: question.object,
         rows: question.rows,
-        quiet: question.quiet,
+        hints: question.hints,
     };
     let mut seen = Seen::with_hasher(question.alloc, Keys::new(question.keys));
     match search(&task, &mut seen, question.processes, question.most)? {
@@ -262,12 +262,12 @@ pub fn find_order<O: Object>(
         return Err(NoMemory);
     };
     let rows = rows_of(alloc, events, processes)?;
-    let quiet = Quiet::of(alloc, object, &rows)?;
+    let hints = Hints::of(alloc, object, &rows)?;
     let question = Question {
         alloc,
         events,
         rows: &rows,
-        quiet: &quiet,
+        hints: &hints,
         object,
         processes,
         most,

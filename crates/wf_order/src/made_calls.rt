@@ -22,7 +22,7 @@ use wf_history::{SeenCall, SeenReply};
 const ROWS: usize = 64;
 
 /// An odd number that spreads a number over its upper bits.
-const SPREAD: u64 = 0x9E37_79B9_7F4A_7C15;
+pub(crate) const SPREAD: u64 = 0x9E37_79B9_7F4A_7C15;
 
 /// So many calls that write are looked up in vain, beyond those that are found, before none is looked up any more.
 const VAIN_CALLS: usize = 256;
@@ -45,7 +45,7 @@ pub(crate) struct MadeCalls<'a, S> {
 }
 
 /// A scalar as a number.
-fn number_of(scalar: Scalar) -> u64 {
+pub(crate) fn number_of(scalar: Scalar) -> u64 {
     match scalar {
         Scalar::Int(number) => number.cast_unsigned() as u64,
         Scalar::Bool(false) => 0,

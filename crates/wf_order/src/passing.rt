@@ -57,10 +57,7 @@ fn reader_at<'a, O: Object>(
 {
     let counts = here.found.counts.as_slice();
     for process in from..counts.len() {
-        if !task
-            .quiet
-            .may_come(process, counts[process] as usize, here.limit)
-        {
+        if task.hints.at(process, counts[process] as usize).quiet as usize >= here.limit {
             continue;
         }
         if reads_here(task, here, process, calls)? {

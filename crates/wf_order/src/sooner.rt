@@ -12,7 +12,8 @@ ghost use Rattle.wf_order.specs.Turns.{IsNextOf};
 use crate::compared_replies::{are_same_replies, is_same_call};
 use crate::next_call::Next;
 use crate::rows::{Begun, Ended, Rows};
-use crate::step::Here;
+use crate::searched_object::Object;
+use crate::step::{Here, Task};
 
 /// A call by its process and its place in the row.
 #[derive(Clone, Copy)]
@@ -80,9 +81,9 @@ pub(crate) fn is_sooner(rows: &Rows, limit: usize, first: Spot, begun: Begun, en
 }
 
 /// Whether a next call need not be tried, since an equal one of another process ends sooner.
-pub(crate) fn has_sooner<S>(rows: &Rows, here: &Here<S>, next: &Next) -> bool
-    requires { IsNextOf rows.now here.now.found.now.counts.items next.now }
-    ensures { (history : List (Event ObjectCall Reply)) → IsAt history rows.now here.now
+pub(crate) fn has_sooner<O: Object>(task: &Task<O>, here: &Here<O::State>, next: &Next) -> bool
+    requires { IsNextOf task.now.rows.now here.now.found.now.counts.items next.now }
+    ensures { (history : List (Event ObjectCall Reply)) → IsAt history task.now.rows.now here.now
         → IsTrue result → HasSooner history here.now.found.now.counts.items (call_at next.now.process (get_or here.now.found.now.counts.items next.now.process 0)) }
 {
     let Some(end) = next.ended else {
@@ -93,10 +94,15 @@ pub(crate) fn has_sooner<S>(rows: &Rows, here: &Here<S>, next: &Next) -> bool
         return false;
     }
     let counts = here.found.counts.as_slice();
+    let taken = counts.get(next.process).copied().unwrap_or(0);
+    let looks = task.hints.at(next.process, taken as usize).looks;
     for (process, count) in counts.iter().enumerate() {
         let place = *count as usize;
+        if task.hints.at(process, place).looks != looks {
+            continue;
+        }
         let first = Spot { process, place };
-        if is_sooner(rows, here.limit, first, next.begun, end) {
+        if is_sooner(task.rows, here.limit, first, next.begun, end) {
             return true;
         }
     }

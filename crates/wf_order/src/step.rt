@@ -12,9 +12,9 @@ ghost use Rattle.wf_order.specs.Steps.{one_more};
 ghost use Rattle.wf_order.specs.Turns.{IsNextOf};
 
 use crate::compared_replies::{is_same_call, is_same_reply};
+use crate::hints::Hints;
 use crate::made_calls::{MadeCalls, outcome};
 use crate::next_call::Next;
-use crate::quiet::Quiet;
 use crate::rows::{Begun, Ended, Rows};
 use crate::searched_object::Object;
 use crate::seen::{Counts, Found};
@@ -30,7 +30,7 @@ pub(crate) struct Task<'r, 'a, O> {
     pub events: &'a [Event],
     pub object: &'a O,
     pub rows: &'r Rows<'a>,
-    pub quiet: &'r Quiet,
+    pub hints: &'r Hints,
 }
 
 /// A configuration, with the first place at which a call ends that is not taken there.
@@ -172,15 +172,12 @@ pub(crate) fn any_silent_step<'a, O: Object>(
     ensures within { IfOk result (IsOfFirst (length here.now.found.now.counts.items)) }
 {
     let mut made = None;
-    if here.limit > task.quiet.until {
+    if here.limit > task.hints.until {
         return Ok(Silent::Never);
     }
     let counts = here.found.counts.as_slice();
     for process in 0..counts.len() {
-        if !task
-            .quiet
-            .may_come(process, counts[process] as usize, here.limit)
-        {
+        if task.hints.at(process, counts[process] as usize).quiet as usize >= here.limit {
             continue;
         }
         let Some((begun, end)) = ended_call(task, here, process) else {

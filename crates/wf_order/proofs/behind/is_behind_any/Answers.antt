@@ -1,8 +1,5 @@
 -- The equal call's step.
-use Rattle.std.proofs.Common.{◌≡◌, ap, sym, subst, ◌∙◌, ℕ, true, List, length, get_or}
-use Rattle.std.specs.Prelude.{nat_lt}
-use Rattle.std.proofs.lemmas.Bool.{ltb-true}
-use Rattle.std.proofs.lemmas.List.{get_or_read}
+use Rattle.std.proofs.Common.{sym, subst, ℕ, List, length, get_or}
 use Rattle.std.proofs.lemmas.Option.{MatchOption-at_some}
 use Rattle.wf_order.specs.Rows.{call_at}
 use Rattle.wf_order.specs.Rules.{AreAlike}

@@ -1,8 +1,6 @@
 -- What the rows hold of it.
-use Rattle.std.proofs.Common.{◌≡◌, ap, sym, subst, ◌∙◌, ℕ, ◌<◌, true, List, length, get_or, Some}
-use Rattle.std.specs.Prelude.{nat_lt, slice_get}
-use Rattle.std.proofs.lemmas.Bool.{ltb-true}
-use Rattle.std.proofs.lemmas.List.{get_or_read}
+use Rattle.std.proofs.Common.{◌≡◌, sym, subst, ◌∙◌, ℕ, Some}
+use Rattle.std.specs.Prelude.{slice_get}
 use Rattle.wf_order.specs.Rows.{begun_rows, ended_rows, row_of}
 use Rattle.wf_order.proofs.Taken.{taken_is, within_is}
 use Rattle.wf_order.proofs.step.ended_call.Goals as goal

@@ -1,9 +1,6 @@
 -- By the rows, and by the outcomes.
-use Rattle.std.proofs.Common.{◌≡◌, refl, ap, sym, subst, ◌∙◌, ℕ, true, false, not, List, length, get_or, Option, option_map, None, Some}
-use Rattle.std.specs.Prelude.{nat_lt}
+use Rattle.std.proofs.Common.{◌≡◌, refl, ap, sym, subst, ◌∙◌, false, not, Option, option_map, None, Some}
 use Rattle.std.specs.Option.{is_some}
-use Rattle.std.proofs.lemmas.Bool.{ltb-true}
-use Rattle.std.proofs.lemmas.List.{get_or_read}
 use Rattle.std.proofs.lemmas.Result.{IfOk-weaker}
 use Rattle.wf_history.specs.declared.seen_event.SeenReply.{SeenReply}
 use Rattle.wf_history.specs.View.{seen_call, seen_reply}

@@ -1,8 +1,5 @@
 -- What may come behind it comes alike; or the state is the same.
-use Rattle.std.proofs.Common.{◌≡◌, ap, sym, subst, ◌∙◌, ℕ, ◌<◌, true, List, length, get_or}
-use Rattle.std.specs.Prelude.{nat_lt}
-use Rattle.std.proofs.lemmas.Bool.{ltb-true}
-use Rattle.std.proofs.lemmas.List.{get_or_read}
+use Rattle.std.proofs.Common.{ap, sym, subst, ◌∙◌}
 use Rattle.wf_order.specs.Search.{found_in, IsNextStep}
 use Rattle.wf_order.specs.Steps.{Configuration}
 use Rattle.wf_order.proofs.LeftOut.{left_out}
