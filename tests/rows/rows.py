@@ -29,6 +29,8 @@ TRAPPED = re.compile(r"(call \d+\.\d+, line \d+ of \w+: trap \d), shown in (\w+)
 OPENED = re.compile(r"(O2 trap \d), shown in (\w+) at (\d+): (.*)")
 WORD = re.compile(rb"[A-Za-z][A-Za-z0-9_]*")
 NO_MEMORY = b"NoMemory\n"
+# what `explain` says behind the last fault of a module that it tells, where there may be more
+MORE = b"there may be more faults: `check` stops at the first\n"
 
 
 class BadRow(Exception):
@@ -164,7 +166,8 @@ def answered(row, answer):
         return replace(row, out=b"", err=b"")
     told = EXPLAINED.fullmatch(answer)
     if told:
-        return replace(row, out=b"", err=explained(told[1], expand(row.files[told[1]]), int(told[2]), told[3]))
+        more = MORE if told[1] == row.words.split()[1] and " / with " not in told[3] else b""
+        return replace(row, out=b"", err=explained(told[1], expand(row.files[told[1]]), int(told[2]), told[3]) + more)
     trap = TRAPPED.fullmatch(answer)
     if trap:
         shown = explained(trap[2], expand(row.files[trap[2]]), int(trap[3]), trap[4])

@@ -1,4 +1,4 @@
--- What is told behind a fault of a module's text that comes of a slip.
+-- What is told behind a fault of a module's text.
 use Rattle.std.specs.Prelude.{◌≡◌, ◌⊎◌, ◌<◌, ◌≤◌, ℕ, true, false, List, [], ◌∷◌, ◌++◌, Option, None, Some, codes, length}
 use Rattle.ob_check.specs.CheckedText.{IsNumberedText, IsTextFault}
 use Rattle.ob_check.specs.declared.module_text.TextFault.{TextFault}
@@ -65,14 +65,19 @@ pub record IsNext (s : Stage) (before : List ℕ) (last : Mending) (e : TextFaul
   pub remarked : IsTextRemark s.text e remark
   pub is : told ≡ mending_text before last.meant ++ codes ", the next fault is:\n" ++ shown_own s remark
 
--- What is told behind a fault of a text. Where it is no slip, or ten faults are told, nothing. Else it is mended: then the text is right;
--- or the fault stays, and it was no slip; or the text has a further fault, which is told, and what is told behind that one.
+-- that there may be more faults than those that are told
+abbrev pub more_faults : List ℕ
+more_faults = codes "there may be more faults: `check` stops at the first\n"
+
+-- What is told behind a fault of a text. Where no mending is known, or ten faults are told, that there may be more. Else it is mended: then the
+-- text is right; or the fault stays, so it was no such slip, and there may be more; or the text has a further fault, which is told, and what is
+-- told behind that one.
 pub data IsTold : Stage → TextFault → (told : List ℕ) → Type 0 where
-  ends : {s : Stage} {e : TextFault} → IsNextMending s e None → IsTold s e []
+  ends : {s : Stage} {e : TextFault} → IsNextMending s e None → IsTold s e more_faults
   rights : {s : Stage} {e : TextFault} (m : Mending) → IsNextMending s e (Some m) → IsRight (mended s.text m)
       → IsTold s e (mending_text s.text m.meant ++ codes ", the text has no other fault\n")
   stays : {s : Stage} {e : TextFault} (m : Mending) (f : TextFault) → IsNextMending s e (Some m) → Finds (mended s.text m) f
-      → is_further m f ≡ false → IsTold s e []
+      → is_further m f ≡ false → IsTold s e more_faults
   goes_on : {s : Stage} {e : TextFault} (m : Mending) (f : TextFault) (next behind : List ℕ) → IsNextMending s e (Some m)
       → Finds (mended s.text m) f → is_further m f ≡ true → IsNext (mended_stage m s) s.text m f next → IsTold (mended_stage m s) f behind
       → IsTold s e (next ++ behind)

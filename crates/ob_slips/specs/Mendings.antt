@@ -10,7 +10,8 @@ use Rattle.ob_slips.specs.declared.mending.Meant.TheVariants as Means
 use Rattle.ob_slips.specs.declared.mending.Mending.{Mending}
 
 -- What is put there. It has no line feed, so that each line stays where it is, and no fewer bytes than are taken out; an operator of
--- letters stands between blanks. A keyword and a name come of the text.
+-- letters stands between blanks. A keyword and a name come of the text. In place of a statement none stands, and in place of a condition
+-- one that breaks no rule, each before blanks for what is left out.
 abbrev pub put : Meant → List ℕ
 put Means.Semicolon = codes ";"
 put Means.Assign = codes ":="
@@ -28,6 +29,8 @@ put Means.Arrow = codes ":="
 put Means.Letter = codes "x"
 put Means.Capitals = []
 put (Means.Name named) = []
+put Means.Statement = []
+put Means.Condition = codes "0=0 "
 
 -- how it is told, where that doesn't go by the text
 abbrev pub phrase : Meant → List ℕ
@@ -47,6 +50,8 @@ phrase Means.Arrow = codes "with := for <-"
 phrase Means.Letter = codes "with a letter for each _"
 phrase Means.Capitals = codes "with the keyword in capitals"
 phrase (Means.Name named) = codes "with another name in its place"
+phrase Means.Statement = codes "with this statement left out"
+phrase Means.Condition = codes "with this condition left out"
 
 -- a name is told itself
 abbrev pub name_text : (text : List ℕ) → Named → List ℕ
@@ -76,11 +81,21 @@ renamed text m named = spliced text m (filled_up (bytes_of text named) m.put)
 abbrev pub letter_for : ℕ → ℕ
 letter_for b = if b == 95 then 120 else b
 
+-- a blank for each byte that is no line feed
+abbrev pub blank_for : ℕ → ℕ
+blank_for b = if b == 10 then 10 else 32
+
+-- without a statement: of `x := y; y := 1` only `y := 1` is left, with blanks before the `;`
+abbrev pub without_part : List ℕ → Mending → List ℕ
+without_part text m = spliced text m (put m.meant ++ map blank_for (take m.taken (drop m.place text)))
+
 -- What is meant stands at its place alone, but a letter stands for each `_` of the text, since a name has it wherever it stands.
 abbrev pub mended_by : Meant → List ℕ → Mending → List ℕ
 mended_by Means.Letter text m = map letter_for text
 mended_by Means.Capitals text m = capitalised text m
 mended_by (Means.Name named) text m = renamed text m named
+mended_by Means.Statement text m = without_part text m
+mended_by Means.Condition text m = without_part text m
 mended_by meant text m = spliced text m (put meant)
 
 -- the text with a mending

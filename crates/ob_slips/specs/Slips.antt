@@ -1,4 +1,5 @@
--- Which slips are known: the mending of a fault is that of a sign, else of a word, else of a line.
+-- Which slips are known: the mending of a fault is that of a sign, else of a word, else of a line. Where a rule is broken by no slip, the
+-- statement or the condition is left out.
 use Rattle.std.specs.Prelude.{◌≡◌, ◌==◌, ◌&&◌, ℕ, nat_lt, max, not, Bool, IsTrue, true, false, List, drop, length, take, Option, None, Some, option_map, if◌then◌else◌}
 use Rattle.std.specs.Char.{is_ascii_uppercase}
 use Rattle.std.specs.List.{list_all, list_any}
@@ -22,6 +23,7 @@ use Rattle.ob_scan.specs.declared.token.Kind.TheVariants as Kinds
 use Rattle.ob_scan.specs.declared.token.Token.{Token}
 use Rattle.ob_scopes.specs.declared.fault.CheckFault.TheVariants as Check
 use Rattle.ob_slips.specs.Mendings.{origin, put}
+use Rattle.ob_slips.specs.Parts.{IsPartMending}
 use Rattle.ob_slips.specs.Signs.{IsSignMending}
 use Rattle.ob_slips.specs.declared.mending.Meant.TheVariants as Means
 use Rattle.ob_slips.specs.declared.mending.Mending.{Mending}
@@ -132,10 +134,14 @@ IsTokenMending s m =
 abbrev pub IsUnexpectedMending : (text : List ℕ) → (place : ℕ) → Option Mending → Type 0
 IsUnexpectedMending text place m = (s : Scene) × IsScene text place s × IsTokenMending s m
 
--- of the rules C1 alone is broken by a slip
+-- of the rules C1 alone is broken by a slip in a name
+abbrev pub IsNamedMending : (text : List ℕ) → Rule → (place : ℕ) → Option Mending → Type 0
+IsNamedMending text Rules.UnknownName place m = IsNameMending Numbers.C1 near_named text place m
+IsNamedMending text _ place m = m ≡ None
+
+-- Else the statement or the condition in which a rule is broken is left out. No other one has a fault by that.
 abbrev pub IsRuleMending : (text : List ℕ) → Rule → (place : ℕ) → Option Mending → Type 0
-IsRuleMending text Rules.UnknownName place m = IsNameMending Numbers.C1 near_named text place m
-IsRuleMending text _ place m = m ≡ None
+IsRuleMending text rule place m = IsElse (IsNamedMending text rule place) (IsPartMending text place) m
 
 -- the mending of the slip from which a fault of a text comes, where it is one that is known
 abbrev pub IsMending : (text : List ℕ) → TextFault → Option Mending → Type 0

@@ -2,7 +2,7 @@
 
 ghost use Rattle.std.specs.Prelude.{◌≡◌, ◌∷◌, ◌++◌, IfOk, codes, option_map, string_bytes};
 ghost use Rattle.ob_messages.specs.Remarks.{remark_of};
-ghost use Rattle.ob_slips.specs.Behind.{IsNext, IsNextMending, IsTold, own_stage, shown_own, stage_of};
+ghost use Rattle.ob_slips.specs.Behind.{IsNext, IsNextMending, IsTold, more_faults, own_stage, shown_own, stage_of};
 ghost use Rattle.ob_slips.specs.Mendings.{mending_text};
 
 use crate::mending::{Mending, mended, mending_text, origin_in};
@@ -41,14 +41,14 @@ fn told_on(alloc: Global, stage: Stage<'_>, fault: TextFault) -> Result<String, 
     ensures { IfOk result (λ told. IsTold (stage_of stage.entry) fault (string_bytes told)) }
 {
     let Some(mending) = next_mending(alloc, stage, fault)? else {
-        return Ok(String::new(alloc));
+        return more_faults(alloc);
     };
     let text = mended(alloc, stage.text, mending)?;
     let Some(next) = verdict(alloc, &text)? else {
         return all_right(alloc, stage.text, mending);
     };
     if !is_further(mending, next) {
-        return Ok(String::new(alloc));
+        return more_faults(alloc);
     }
     let mendings = with_mending(alloc, mending, stage.mendings)?;
     let further = Stage {
@@ -61,6 +61,16 @@ fn told_on(alloc: Global, stage: Stage<'_>, fault: TextFault) -> Result<String, 
     let behind = told_on(alloc, further, next)?;
     told.push_str(behind.as_str())?;
     Ok(told)
+}
+
+/// That there may be more faults than those that are told.
+fn more_faults(alloc: Global) -> Result<String, AllocError>
+    ensures { IfOk result (λ told. string_bytes told ≡ more_faults) }
+{
+    String::from_str(
+        alloc,
+        "there may be more faults: `check` stops at the first\n",
+    )
 }
 
 /// The mending of a fault of the text with mendings, if it comes of a slip and may be mended.

@@ -1,4 +1,5 @@
-//! Slips of one token, or in a name or a keyword, in a module's text, and the faults behind them: those that the text has where the slips before them are mended.
+//! Slips of one token, or in a name or a keyword, in a module's text, and the faults behind them: those that the text has where the slips before
+//! them are mended, and statements and conditions that break a rule are left out.
 //!
 //! One may rely on a fault that is told being that of the mended text, at its place in the module's own text. Which slips are known,
 //! and the words, may change without asking.
@@ -6,6 +7,7 @@
 
 pub mod further_faults;
 pub mod mending;
+pub mod part;
 mod signs;
 pub mod slip;
 pub mod slip_remark;

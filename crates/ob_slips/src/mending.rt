@@ -2,7 +2,8 @@
 
 ghost use Rattle.std.specs.Prelude.{◌≡◌, IfOk, map, string_bytes};
 ghost use Rattle.std.specs.Char.{to_ascii_uppercase};
-ghost use Rattle.ob_slips.specs.Mendings.{capitalised, filled_up, letter_for, mended, mending_text, name_text, origin, origin_in, phrase, put, renamed, spliced};
+ghost use Rattle.ob_slips.specs.Mendings.{blank_for, capitalised, filled_up, letter_for, mended, mending_text, name_text, origin, origin_in, phrase, put};
+ghost use Rattle.ob_slips.specs.Mendings.{renamed, spliced, without_part};
 
 use ob_evidence::small_keywords::capitals;
 use ob_explain_words::distance::{Named, bytes_of};
@@ -38,6 +39,9 @@ pub enum Meant {
     Capitals,
     /// A name of the language or of the text, where a word stands that is near to it.
     Name(Named),
+    /// No statement, and a condition that breaks no rule, where one stands that breaks one.
+    Statement,
+    Condition,
 }
 
 /// A mending of a slip at a place: how many bytes it takes out, and how many it puts there.
@@ -57,6 +61,7 @@ pub fn mended(alloc: Global, text: &[u8], mending: Mending) -> Result<Vec<u8>, A
         Meant::Letter => lettered(alloc, text),
         Meant::Capitals => capitalised(alloc, text, mending),
         Meant::Name(named) => renamed(alloc, text, mending, named),
+        Meant::Statement | Meant::Condition => without_part(alloc, text, mending),
         _ => spliced(alloc, text, mending, put(mending.meant)),
     }
 }
@@ -113,6 +118,35 @@ fn filled_up(alloc: Global, name: &[u8], bytes: usize) -> Result<Vec<u8>, AllocE
     Ok(whole)
 }
 
+/// The text with blanks for what the mending leaves out.
+fn without_part(alloc: Global, text: &[u8], mending: Mending) -> Result<Vec<u8>, AllocError>
+    ensures { IfOk result (λ whole. whole.items ≡ without_part text.now mending) }
+{
+    let (_, from) = halves(text, mending.place);
+    let (part, _) = halves(from, mending.taken);
+    let mut bytes = Vec::from_slice(alloc, put(mending.meant))?;
+    bytes.extend_from_slice(&blanked(alloc, part)?)?;
+    spliced(alloc, text, mending, &bytes)
+}
+
+/// A blank for each byte that is no line feed.
+fn blanked(alloc: Global, bytes: &[u8]) -> Result<Vec<u8>, AllocError>
+    ensures { IfOk result (λ whole. whole.items ≡ map blank_for bytes.now) }
+{
+    let mut whole = Vec::new(alloc);
+    for byte in bytes {
+        whole.push(blank_for(*byte))?;
+    }
+    Ok(whole)
+}
+
+/// A blank, so that each line stays where it is.
+fn blank_for(byte: u8) -> u8
+    ensures { result ≡ blank_for byte }
+{
+    if byte == b'\n' { b'\n' } else { b' ' }
+}
+
 /// The text with these bytes at the place alone.
 fn spliced(
     alloc: Global,
@@ -154,7 +188,7 @@ pub fn origin(mending: Mending, at: usize) -> usize
     }
 }
 
-/// What a mending puts there; nothing for a word, which comes of the text.
+/// What a mending puts there; nothing for a word, which comes of the text, nor for a statement, which is left out.
 pub(crate) fn put(meant: Meant) -> &'static [u8]
     ensures { result.now ≡ put meant }
 {
@@ -175,6 +209,8 @@ pub(crate) fn put(meant: Meant) -> &'static [u8]
         Meant::Letter => b"x",
         Meant::Capitals => b"",
         Meant::Name(_) => b"",
+        Meant::Statement => b"",
+        Meant::Condition => b"0=0 ",
     }
 }
 
@@ -219,5 +255,7 @@ pub fn phrase(meant: Meant) -> &'static str
         Meant::Letter => "with a letter for each _",
         Meant::Capitals => "with the keyword in capitals",
         Meant::Name(_) => "with another name in its place",
+        Meant::Statement => "with this statement left out",
+        Meant::Condition => "with this condition left out",
     }
 }

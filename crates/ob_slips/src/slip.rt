@@ -4,10 +4,11 @@ ghost use Rattle.std.specs.Prelude.{◌≡◌, IfOk};
 ghost use Rattle.std.specs.Char.{is_ascii_uppercase};
 ghost use Rattle.std.specs.List.{list_all};
 ghost use Rattle.ob_evidence.specs.Sites.{scene_of};
-ghost use Rattle.ob_slips.specs.Slips.{IsLineMending, IsMending, IsRuleMending, IsTokenMending, IsUnexpectedMending};
+ghost use Rattle.ob_slips.specs.Slips.{IsLineMending, IsMending, IsNamedMending, IsRuleMending, IsTokenMending, IsUnexpectedMending};
 ghost use Rattle.ob_slips.specs.Slips.{begins_part, ends_line, is_further, is_misspelt, is_off, lacks_semicolon};
 
 use crate::mending::{Meant, Mending, origin, put};
+use crate::part::part_mending;
 use crate::signs::sign_mending;
 use crate::word_mending::{end_mending, keyword_mending, near_mending};
 use ob_check::TextFault;
@@ -39,7 +40,7 @@ pub fn slip_mending(
     }
 }
 
-/// The mending at the place where a rule is broken.
+/// The mending at the place where a rule is broken: by a near name, else without the statement or the condition there.
 fn rule_mending(
     alloc: Global,
     text: &[u8],
@@ -47,6 +48,21 @@ fn rule_mending(
     place: usize,
 ) -> Result<Option<Mending>, AllocError>
     ensures { IfOk result (IsRuleMending text.now rule place) }
+{
+    if let Some(mending) = named_mending(alloc, text, rule, place)? {
+        return Ok(Some(mending));
+    }
+    part_mending(alloc, text, place)
+}
+
+/// The mending of a name, where it is unknown.
+fn named_mending(
+    alloc: Global,
+    text: &[u8],
+    rule: Rule,
+    place: usize,
+) -> Result<Option<Mending>, AllocError>
+    ensures { IfOk result (IsNamedMending text.now rule place) }
 {
     match rule {
         Rule::UnknownName => near_mending(alloc, text, place),

@@ -1,12 +1,15 @@
-use Rattle.std.proofs.Common.{◌≡◌, ◌++◌, ◌∷◌, ℕ, List, Some, ap, string_bytes, subst, sym, ◌∙◌}
+use Rattle.std.proofs.Common.{◌≡◌, ◌++◌, ◌∷◌, ℕ, List, None, Some, ap, false, string_bytes, subst, sym, ◌∙◌}
 use Rattle.std.proofs.lemmas.Result.{IfOk-weaker}
 use Rattle.ob_slips.specs.Behind.{Finds, IsNext, IsNextMending, IsRight, IsTold, ends, goes_on, rights, stage_of, stays}
 use Rattle.ob_slips.specs.Mendings.{mended}
+use Rattle.ob_slips.specs.Slips.{is_further}
 use Rattle.ob_slips.proofs.Moved.{moved}
 use Rattle.ob_slips.proofs.further_faults.+told_on.Goals as goal
 
 pub returns-in_default : goal.returns-in_default
-returns-in_default t c = rw c.new.ensures.bytes (ends (rw c.in_default.is at c.in_ok-mending.ensures))
+returns-in_default t c =
+    let next : IsNextMending (stage_of c.args.stage) c.args.fault None = rw c.in_default.is at c.in_ok-mending.ensures in
+    IfOk-weaker c.more_faults.result _ _ (λ told is. rw is (ends next)) c.more_faults.ensures
 
 pub returns-in_default-2 : goal.returns-in_default-2
 returns-in_default-2 t c =
@@ -23,8 +26,9 @@ returns-then-not-is_further t c =
     let next : IsNextMending (stage_of c.args.stage) c.args.fault (Some m) = rw c.in-Some.is at c.in_ok-mending.ensures in
     let same : c.deref.result.now ≡ mended c.args.stage.text.now m = c.deref.ensures.value ∙ c.in_ok-text.ensures in
     let found : Finds c.deref.result.now f = rw c.in-Some-2.is at c.in_ok-next.ensures in
-    rw c.new-then-not-is_further.ensures.bytes
-    (stays m f next (subst (λ (text : List ℕ). Finds text f) same found) (sym c.is_further.ensures ∙ c.if-not-is_further.true))
+    let finds : Finds (mended c.args.stage.text.now m) f = subst (λ (text : List ℕ). Finds text f) same found in
+    let stay : is_further m f ≡ false = sym c.is_further.ensures ∙ c.if-not-is_further.true in
+    IfOk-weaker c.more_faults-then-not-is_further.result _ _ (λ told is. rw is (stays m f next finds stay)) c.more_faults-then-not-is_further.ensures
 
 pub returns : goal.returns
 returns t c =
