@@ -89,11 +89,9 @@ fn object_reply(alloc: Global, reply: &interpreter::Reply) -> Result<Reply, Allo
 impl<'a> ModuleObject<'a> {
     ghost use Rattle.std.specs.Prelude.{IfOk, option_map};
     ghost use Rattle.ob_checked.specs.CheckedModule.{program_in};
-    ghost use Rattle.ob_object_search.specs.Kept.{kept_in};
-    ghost use Rattle.ob_object_search.specs.Objects.{LeadsTo, effect_in};
+    ghost use Rattle.ob_object_search.specs.Objects.{ComesOf, LeadsTo};
     ghost use Rattle.ob_interface.specs.View as Objects;
     ghost use Rattle.wf_history.specs.View.{seen_call, seen_reply};
-    ghost use Rattle.wf_order.specs.Rules.{IsOutcome};
 
     /// What a call makes of a state by the interpreter, and what it answers. It stands apart, so that a call by code makes no room for it.
     #[inline(never)]
@@ -124,7 +122,7 @@ impl<'a> ModuleObject<'a> {
         call: SeenCall,
         known: Option<SeenReply>,
     ) -> Result<Option<KeptState>, NoMemory>
-        ensures { IfOk result (λ to. IsOutcome (effect_in self.now (seen_call call.entry)) (kept_in state.now) (option_map seen_reply known.entry) (option_map kept_in to)) }
+        ensures { IfOk result (ComesOf self.now (seen_call call.entry) state.now (option_map seen_reply known.entry)) }
     {
         let (next, reply) = self.called_by_tree(alloc, state, call)?;
         match known {

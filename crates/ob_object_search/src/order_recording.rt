@@ -30,19 +30,16 @@ use ob_store::state::State;
 use ob_text_reading::{ReadHistory, read_history};
 use ob_text_record::{Record, write_record};
 use std::alloc::{AllocError, Global};
-use thiserror::Error;
 use wf_history::{CallId, History};
 use wf_order::process_count;
 
 /// Why there is no record.
-#[derive(Clone, Copy, Debug, Error)]
+#[derive(Clone, Copy)]
 pub enum RecordingFault {
     /// No order was found.
-    #[error("{0}")]
     Search(SearchFault),
     /// N1: a process is over 15, and a record has 16 processes at most. It is told behind the faults of the module, its opening and the
     /// history, and before an order is looked for.
-    #[error("N1")]
     Processes,
 }
 
