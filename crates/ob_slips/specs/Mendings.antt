@@ -1,5 +1,5 @@
 -- Mendings of a text: at a place a few bytes are taken out, and what is meant is put there.
-use Rattle.std.specs.Prelude.{ℕ, ◌-◌, ◌==◌, nat_lt, List, [], ◌++◌, codes, drop, length, map, replicate, take, if◌then◌else◌}
+use Rattle.std.specs.Prelude.{ℕ, ◌-◌, ◌==◌, nat_lt, List, [], ◌++◌, codes, decimal, drop, length, map, replicate, take, if◌then◌else◌}
 use Rattle.std.specs.Char.{to_ascii_uppercase}
 use Rattle.std.specs.List.{fold}
 use Rattle.ob_explain_words.specs.Distance.{bytes_of}
@@ -9,9 +9,9 @@ use Rattle.ob_slips.specs.declared.mending.Meant.{Meant}
 use Rattle.ob_slips.specs.declared.mending.Meant.TheVariants as Means
 use Rattle.ob_slips.specs.declared.mending.Mending.{Mending}
 
--- What is put there. It has no line feed, so that each line stays where it is, and no fewer bytes than are taken out; an operator of
--- letters stands between blanks. A keyword and a name come of the text. In place of a statement none stands, and in place of a condition
--- one that breaks no rule, each before blanks for what is left out.
+-- What is put there, before blanks for what is longer that is taken out. It has no line feed, so that each line stays where it is; an
+-- operator of letters stands between blanks, and so do THEN and DO. A keyword in capitals and a name come of the text. In place of a
+-- statement none stands, and in place of a condition one that breaks no rule.
 abbrev pub put : Meant → List ℕ
 put Means.Semicolon = codes ";"
 put Means.Assign = codes ":="
@@ -28,11 +28,26 @@ put Means.AtMost = codes "<="
 put Means.Arrow = codes ":="
 put Means.Letter = codes "x"
 put Means.Capitals = []
+put (Means.Alone line) = []
 put (Means.Name named) = []
+put Means.Then = codes " THEN "
+put Means.Do = codes " DO "
+put Means.Colon = codes ":"
+put Means.Equal = codes "="
+put Means.SemicolonThere = codes ";"
+put Means.Nothing = []
+put Means.ThenBefore = codes " THEN "
+put Means.DoBefore = codes " DO "
+put Means.ColonBefore = codes ":"
+put Means.CommaBefore = codes ","
+put Means.AndWord = codes "&"
+put Means.NotWord = codes "~"
+put Means.ElsifWord = codes "ELSIF"
+put Means.EndWord = codes "END"
 put Means.Statement = []
 put Means.Condition = codes "0=0 "
 
--- how it is told, where that doesn't go by the text
+-- how it is told, where that goes neither by the text nor by a line
 abbrev pub phrase : Meant → List ℕ
 phrase Means.Semicolon = codes "with a ; before it"
 phrase Means.Assign = codes "with := in its place"
@@ -49,7 +64,22 @@ phrase Means.AtMost = codes "with <= for =<"
 phrase Means.Arrow = codes "with := for <-"
 phrase Means.Letter = codes "with a letter for each _"
 phrase Means.Capitals = codes "with the keyword in capitals"
+phrase (Means.Alone line) = codes "with another keyword in capitals"
 phrase (Means.Name named) = codes "with another name in its place"
+phrase Means.Then = codes "with THEN in its place"
+phrase Means.Do = codes "with DO in its place"
+phrase Means.Colon = codes "with : in its place"
+phrase Means.Equal = codes "with = in its place"
+phrase Means.SemicolonThere = codes "with ; in its place"
+phrase Means.Nothing = codes "with nothing in its place"
+phrase Means.ThenBefore = codes "with THEN before it"
+phrase Means.DoBefore = codes "with DO before it"
+phrase Means.ColonBefore = codes "with a : before it"
+phrase Means.CommaBefore = codes "with a , before it"
+phrase Means.AndWord = codes "with & written there"
+phrase Means.NotWord = codes "with ~ written there"
+phrase Means.ElsifWord = codes "with ELSIF written there"
+phrase Means.EndWord = codes "with END written there"
 phrase Means.Statement = codes "with this statement left out"
 phrase Means.Condition = codes "with this condition left out"
 
@@ -57,8 +87,13 @@ phrase Means.Condition = codes "with this condition left out"
 abbrev pub name_text : (text : List ℕ) → Named → List ℕ
 name_text text named = codes "with " ++ map shown_byte (bytes_of text named) ++ codes " in its place"
 
+-- and of a keyword in another line the line
+abbrev pub line_text : (line : ℕ) → List ℕ
+line_text line = codes "with the keyword of line " ++ decimal line ++ codes " in capitals"
+
 abbrev pub mending_text : (text : List ℕ) → Meant → List ℕ
 mending_text text (Means.Name named) = name_text text named
+mending_text text (Means.Alone line) = line_text line
 mending_text text meant = phrase meant
 
 -- `x = 1` with `:=` at 2 is `x := 1`
@@ -69,13 +104,13 @@ spliced text m bytes = take m.place text ++ bytes ++ drop m.taken (drop m.place 
 abbrev pub capitalised : List ℕ → Mending → List ℕ
 capitalised text m = spliced text m (map to_ascii_uppercase (take m.taken (drop m.place text)))
 
--- a name, and blanks behind it up to so many bytes
-abbrev pub filled_up : (name : List ℕ) → (bytes : ℕ) → List ℕ
-filled_up name bytes = name ++ replicate (bytes - length name) 32
+-- some bytes, and blanks behind them up to so many
+abbrev pub filled_up : (whole : List ℕ) → (bytes : ℕ) → List ℕ
+filled_up whole bytes = whole ++ replicate (bytes - length whole) 32
 
--- with a name in place of the word there, which has blanks for what the word is longer
-abbrev pub renamed : List ℕ → Mending → Named → List ℕ
-renamed text m named = spliced text m (filled_up (bytes_of text named) m.put)
+-- with these bytes in place of what is taken out, and blanks for what that is longer
+abbrev pub filled : List ℕ → Mending → (bytes : List ℕ) → List ℕ
+filled text m bytes = spliced text m (filled_up bytes m.put)
 
 -- a letter for `_`, and each other byte as it is
 abbrev pub letter_for : ℕ → ℕ
@@ -93,10 +128,11 @@ without_part text m = spliced text m (put m.meant ++ map blank_for (take m.taken
 abbrev pub mended_by : Meant → List ℕ → Mending → List ℕ
 mended_by Means.Letter text m = map letter_for text
 mended_by Means.Capitals text m = capitalised text m
-mended_by (Means.Name named) text m = renamed text m named
+mended_by (Means.Alone line) text m = capitalised text m
+mended_by (Means.Name named) text m = filled text m (bytes_of text named)
 mended_by Means.Statement text m = without_part text m
 mended_by Means.Condition text m = without_part text m
-mended_by meant text m = spliced text m (put meant)
+mended_by meant text m = filled text m (put meant)
 
 -- the text with a mending
 abbrev pub mended : List ℕ → Mending → List ℕ

@@ -1,18 +1,17 @@
--- Which slips are known: the mending of a fault is that of a sign, else of a word, else of a line. Where a rule is broken by no slip, the
--- statement or the condition is left out.
+-- Which slips are known: the mending of a fault is that of a sign, else of a word, else of a token that is missing or too much. Where a
+-- rule is broken by no slip, the statement or the condition is left out.
 use Rattle.std.specs.Prelude.{◌≡◌, ◌==◌, ◌&&◌, ℕ, nat_lt, max, not, Bool, IsTrue, true, false, List, drop, length, take, Option, None, Some, option_map, if◌then◌else◌}
 use Rattle.std.specs.Char.{is_ascii_uppercase}
-use Rattle.std.specs.List.{list_all, list_any}
+use Rattle.std.specs.List.{list_all}
 use Rattle.ob_check.specs.declared.module_text.TextFault.{TextFault}
 use Rattle.ob_check.specs.declared.module_text.TextFault.TheVariants as Text
 use Rattle.ob_diagnosis.specs.Remarks.{IsRemark}
 use Rattle.ob_evidence.specs.Keywords.{IsSmallKeyword, first_of_statement}
 use Rattle.ob_evidence.specs.Names.{end_name, is_near, near_name}
-use Rattle.ob_evidence.specs.Sites.{IsScene, Scene, here, last, word, word_of}
+use Rattle.ob_evidence.specs.Sites.{IsScene, Scene, here, last, line_of, word, word_of}
 use Rattle.ob_explain_words.specs.Distance.{bytes_of}
 use Rattle.ob_explain_words.specs.declared.distance.Named.{Named}
 use Rattle.ob_explain_words.specs.declared.distance.Named.TheVariants as Names
-use Rattle.ob_messages.specs.Places.{is_line_feed, shown_place}
 use Rattle.ob_messages.specs.Remarks.{Remark}
 use Rattle.ob_messages.specs.declared.table_rows.Number.{Number}
 use Rattle.ob_messages.specs.declared.table_rows.Number.TheVariants as Numbers
@@ -22,39 +21,39 @@ use Rattle.ob_scan.specs.declared.token.Kind.{Kind}
 use Rattle.ob_scan.specs.declared.token.Kind.TheVariants as Kinds
 use Rattle.ob_scan.specs.declared.token.Token.{Token}
 use Rattle.ob_scopes.specs.declared.fault.CheckFault.TheVariants as Check
+use Rattle.ob_slips.specs.Marks.{IsMarkMending, ends_line}
 use Rattle.ob_slips.specs.Mendings.{origin, put}
 use Rattle.ob_slips.specs.Parts.{IsPartMending}
 use Rattle.ob_slips.specs.Signs.{IsSignMending}
+use Rattle.ob_slips.specs.Wheres.{IsElse, IsWhere}
+use Rattle.ob_slips.specs.Words.{IsForeignMending, alone_before, alone_there, is_before_colon}
+use Rattle.ob_slips.specs.declared.mending.Meant.{Meant}
 use Rattle.ob_slips.specs.declared.mending.Meant.TheVariants as Means
 use Rattle.ob_slips.specs.declared.mending.Mending.{Mending}
 use Rattle.ob_typing.specs.declared.rule.Rule.{Rule}
 use Rattle.ob_typing.specs.declared.rule.Rule.TheVariants as Rules
 
--- ---- one mending or another
-
--- this mending where something holds, and else none
-pub data IsWhere (Holds : Type 0) (m : Mending) : Option Mending → Type 0 where
-  holds : Holds → IsWhere Holds m (Some m)
-  fails : (Holds → ⊥) → IsWhere Holds m None
-
--- that of the first sort, and where it has none that of the other one
-pub data IsElse (IsFirst IsOther : Option Mending → Type 0) : Option Mending → Type 0 where
-  first : (m : Mending) → IsFirst (Some m) → IsElse IsFirst IsOther (Some m)
-  other : {m : Option Mending} → IsFirst None → IsOther m → IsElse IsFirst IsOther m
-
 -- ---- words
 
-abbrev pub in_capitals : Scene → (name : Token) → Mending
-in_capitals s name = record {
+abbrev pub in_capitals : Scene → (name : Token) → Meant → Mending
+in_capitals s name meant = record {
   place = name.start;
-  meant = Means.Capitals;
+  meant = meant;
   taken = length (word_of s.text (Some name));
   put = length (word_of s.text (Some name));
 }
 
+-- of a token that is a keyword in small letters, or a word of another language that has a keyword or a sign here
 abbrev pub IsKeywordMending : Scene → Option Token → Option Mending → Type 0
 IsKeywordMending s None m = m ≡ None
-IsKeywordMending s (Some name) m = IsWhere ((keyword : Kind) × IsSmallKeyword s name keyword) (in_capitals s name) m
+IsKeywordMending s (Some name) m =
+    IsElse (IsWhere ((keyword : Kind) × IsSmallKeyword s name keyword) (in_capitals s name Means.Capitals)) (IsForeignMending s name) m
+
+-- of a token before the place that is a keyword in small letters, and stands in another line
+abbrev pub IsAloneMending : Scene → Option Token → Option Mending → Type 0
+IsAloneMending s None m = m ≡ None
+IsAloneMending s (Some name) m =
+    IsWhere ((keyword : Kind) × IsSmallKeyword s name keyword) (in_capitals s name (Means.Alone (line_of s.text (Some name)))) m
 
 -- a name in place of the word there
 abbrev pub renaming : Scene → Named → Mending
@@ -105,10 +104,6 @@ begins_part _ = false
 abbrev pub is_misspelt : (word : List ℕ) → Kind → Bool
 is_misspelt word kind = nat_lt 1 (length word) && list_all is_ascii_uppercase word && not (begins_part kind)
 
--- a line feed stands among the blanks at the end
-abbrev pub ends_line : List ℕ → Bool
-ends_line bytes = list_any is_line_feed (drop (shown_place bytes (length bytes)) bytes)
-
 -- a `;` is missing before a token: a line ends there, and the token is no misspelt keyword
 abbrev pub lacks_semicolon : Scene → (token : Token) → Bool
 lacks_semicolon s t = ends_line (take s.place s.text) && not (is_misspelt (word_of s.text (Some t)) t.kind)
@@ -122,21 +117,42 @@ IsLineMending s (Some token) m = IsWhere (IsTrue (lacks_semicolon s token)) (sem
 
 -- ---- the mending of a fault
 
--- A token that can't stand at a place: it is a slip of a sign; else it is a keyword in small letters, or the one before it is, or the one with
--- which the statement begins, as in `if (x = 1) THEN`; else a `;` is missing.
+-- of the token before a `:` that is a keyword in small letters
+abbrev pub IsColonMending : Scene → Option Token → Option Mending → Type 0
+IsColonMending s None m = m ≡ None
+IsColonMending s (Some name) m = IsWhere (IsTrue (is_before_colon s name)) (in_capitals s name Means.Capitals) m
+
+-- a token is missing or stands for another one; else a keyword stands before a `:`; else one stands alone before the place, as in
+-- `IF b THEN x := 1; end; y := 2 END M.`; else a `;` is missing
+abbrev pub IsGapMending : Scene → Option Mending → Type 0
+IsGapMending s m =
+    IsElse (IsMarkMending s)
+    (IsElse (IsColonMending s (last s))
+    (IsElse (IsAloneMending s (alone_before s)) (IsLineMending s (here s)))) m
+
+-- A token that can't stand at a place: it is a slip of a sign; else it is a slip of a keyword, or the one before it is, or the one with
+-- which the statement begins, as in `if (x = 1) THEN`; else something is missing there, or too much.
 abbrev pub IsTokenMending : Scene → Option Mending → Type 0
 IsTokenMending s m =
     IsElse (IsSignMending s.text s.place)
     (IsElse (IsKeywordMending s (here s))
     (IsElse (IsKeywordMending s (last s))
-    (IsElse (IsKeywordMending s (first_of_statement s)) (IsLineMending s (here s))))) m
+    (IsElse (IsKeywordMending s (first_of_statement s)) (IsGapMending s)))) m
 
 abbrev pub IsUnexpectedMending : (text : List ℕ) → (place : ℕ) → Option Mending → Type 0
 IsUnexpectedMending text place m = (s : Scene) × IsScene text place s × IsTokenMending s m
 
+-- a keyword stands alone at a place, as a call
+abbrev pub IsCallMending : (text : List ℕ) → (place : ℕ) → Option Mending → Type 0
+IsCallMending text place m = (s : Scene) × IsScene text place s × IsKeywordMending s (alone_there s) m
+
+-- so it is, or a near name is meant
+abbrev pub IsUnknownMending : (text : List ℕ) → (place : ℕ) → Option Mending → Type 0
+IsUnknownMending text place m = IsElse (IsCallMending text place) (IsNameMending Numbers.C1 near_named text place) m
+
 -- of the rules C1 alone is broken by a slip in a name
 abbrev pub IsNamedMending : (text : List ℕ) → Rule → (place : ℕ) → Option Mending → Type 0
-IsNamedMending text Rules.UnknownName place m = IsNameMending Numbers.C1 near_named text place m
+IsNamedMending text Rules.UnknownName place m = IsUnknownMending text place m
 IsNamedMending text _ place m = m ≡ None
 
 -- Else the statement or the condition in which a rule is broken is left out. No other one has a fault by that.

@@ -6,6 +6,7 @@
 #![tactic(auto)]
 
 pub mod further_faults;
+mod marks;
 pub mod mending;
 pub mod part;
 mod signs;
@@ -14,6 +15,7 @@ pub mod slip_remark;
 pub mod stage;
 mod verdict;
 mod word_mending;
+mod words;
 
 pub use further_faults::told_behind;
 pub use slip_remark::text_remark;

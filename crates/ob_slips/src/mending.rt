@@ -2,9 +2,10 @@
 
 ghost use Rattle.std.specs.Prelude.{◌≡◌, IfOk, map, string_bytes};
 ghost use Rattle.std.specs.Char.{to_ascii_uppercase};
-ghost use Rattle.ob_slips.specs.Mendings.{blank_for, capitalised, filled_up, letter_for, mended, mending_text, name_text, origin, origin_in, phrase, put};
-ghost use Rattle.ob_slips.specs.Mendings.{renamed, spliced, without_part};
+ghost use Rattle.ob_slips.specs.Mendings.{blank_for, capitalised, filled, filled_up, letter_for, line_text, mended, mending_text, name_text, origin, origin_in, phrase, put};
+ghost use Rattle.ob_slips.specs.Mendings.{spliced, without_part};
 
+use itoa::Buffer;
 use ob_evidence::small_keywords::capitals;
 use ob_explain_words::distance::{Named, bytes_of};
 use ob_messages::place::halves;
@@ -35,10 +36,28 @@ pub enum Meant {
     Arrow,
     /// A letter, where `_` stands, there and elsewhere.
     Letter,
-    /// The keyword, where it stands in small letters.
+    /// The keyword, where it stands in small letters; and where that is alone in a line with this number, before the place of the fault.
     Capitals,
+    Alone(usize),
     /// A name of the language or of the text, where a word stands that is near to it.
     Name(Named),
+    /// THEN, DO, `:`, `=` and `;`, where another token stands; and nothing, where one is too many.
+    Then,
+    Do,
+    Colon,
+    Equal,
+    SemicolonThere,
+    Nothing,
+    /// THEN, DO, `:` and `,`, which are missing there.
+    ThenBefore,
+    DoBefore,
+    ColonBefore,
+    CommaBefore,
+    /// `&`, `~`, ELSIF and END, where a word of another language stands.
+    AndWord,
+    NotWord,
+    ElsifWord,
+    EndWord,
     /// No statement, and a condition that breaks no rule, where one stands that breaks one.
     Statement,
     Condition,
@@ -59,10 +78,10 @@ pub fn mended(alloc: Global, text: &[u8], mending: Mending) -> Result<Vec<u8>, A
 {
     match mending.meant {
         Meant::Letter => lettered(alloc, text),
-        Meant::Capitals => capitalised(alloc, text, mending),
-        Meant::Name(named) => renamed(alloc, text, mending, named),
+        Meant::Capitals | Meant::Alone(_) => capitalised(alloc, text, mending),
+        Meant::Name(named) => filled(alloc, text, mending, bytes_of(text, named)),
         Meant::Statement | Meant::Condition => without_part(alloc, text, mending),
-        _ => spliced(alloc, text, mending, put(mending.meant)),
+        _ => filled(alloc, text, mending, put(mending.meant)),
     }
 }
 
@@ -94,20 +113,15 @@ fn capitalised(alloc: Global, text: &[u8], mending: Mending) -> Result<Vec<u8>, 
     spliced(alloc, text, mending, &word)
 }
 
-/// The text with a name in place of the word there, and blanks behind it up to the longer one of both.
-fn renamed(
-    alloc: Global,
-    text: &[u8],
-    mending: Mending,
-    named: Named,
-) -> Result<Vec<u8>, AllocError>
-    ensures { IfOk result (λ whole. whole.items ≡ renamed text.now mending named) }
+/// The text with these bytes in place of what is taken out, and blanks behind them up to the longer one of both.
+fn filled(alloc: Global, text: &[u8], mending: Mending, bytes: &[u8]) -> Result<Vec<u8>, AllocError>
+    ensures { IfOk result (λ whole. whole.items ≡ filled text.now mending bytes.now) }
 {
-    let put = filled_up(alloc, bytes_of(text, named), mending.put)?;
+    let put = filled_up(alloc, bytes, mending.put)?;
     spliced(alloc, text, mending, &put)
 }
 
-/// A name, and blanks behind it up to so many bytes.
+/// Some bytes, and blanks behind them up to so many.
 fn filled_up(alloc: Global, name: &[u8], bytes: usize) -> Result<Vec<u8>, AllocError>
     ensures { IfOk result (λ whole. whole.items ≡ filled_up name.now bytes) }
 {
@@ -208,7 +222,22 @@ pub(crate) fn put(meant: Meant) -> &'static [u8]
         Meant::Arrow => b":=",
         Meant::Letter => b"x",
         Meant::Capitals => b"",
+        Meant::Alone(_) => b"",
         Meant::Name(_) => b"",
+        Meant::Then => b" THEN ",
+        Meant::Do => b" DO ",
+        Meant::Colon => b":",
+        Meant::Equal => b"=",
+        Meant::SemicolonThere => b";",
+        Meant::Nothing => b"",
+        Meant::ThenBefore => b" THEN ",
+        Meant::DoBefore => b" DO ",
+        Meant::ColonBefore => b":",
+        Meant::CommaBefore => b",",
+        Meant::AndWord => b"&",
+        Meant::NotWord => b"~",
+        Meant::ElsifWord => b"ELSIF",
+        Meant::EndWord => b"END",
         Meant::Statement => b"",
         Meant::Condition => b"0=0 ",
     }
@@ -220,6 +249,7 @@ pub fn mending_text(alloc: Global, text: &[u8], meant: Meant) -> Result<String, 
 {
     match meant {
         Meant::Name(named) => name_text(alloc, text, named),
+        Meant::Alone(line) => line_text(alloc, line),
         _ => String::from_str(alloc, phrase(meant)),
     }
 }
@@ -234,7 +264,18 @@ fn name_text(alloc: Global, text: &[u8], named: Named) -> Result<String, AllocEr
     Ok(told)
 }
 
-/// How a mending is told, where that doesn't go by the text.
+/// The same of a keyword in another line.
+fn line_text(alloc: Global, line: usize) -> Result<String, AllocError>
+    ensures { IfOk result (λ told. string_bytes told ≡ line_text line) }
+{
+    let mut told = String::from_str(alloc, "with the keyword of line ")?;
+    let mut buffer = Buffer::new();
+    told.push_str(buffer.format(line))?;
+    told.push_str(" in capitals")?;
+    Ok(told)
+}
+
+/// How a mending is told, where that goes neither by the text nor by a line.
 pub fn phrase(meant: Meant) -> &'static str
     ensures { result.now ≡ phrase meant }
 {
@@ -254,7 +295,22 @@ pub fn phrase(meant: Meant) -> &'static str
         Meant::Arrow => "with := for <-",
         Meant::Letter => "with a letter for each _",
         Meant::Capitals => "with the keyword in capitals",
+        Meant::Alone(_) => "with another keyword in capitals",
         Meant::Name(_) => "with another name in its place",
+        Meant::Then => "with THEN in its place",
+        Meant::Do => "with DO in its place",
+        Meant::Colon => "with : in its place",
+        Meant::Equal => "with = in its place",
+        Meant::SemicolonThere => "with ; in its place",
+        Meant::Nothing => "with nothing in its place",
+        Meant::ThenBefore => "with THEN before it",
+        Meant::DoBefore => "with DO before it",
+        Meant::ColonBefore => "with a : before it",
+        Meant::CommaBefore => "with a , before it",
+        Meant::AndWord => "with & written there",
+        Meant::NotWord => "with ~ written there",
+        Meant::ElsifWord => "with ELSIF written there",
+        Meant::EndWord => "with END written there",
         Meant::Statement => "with this statement left out",
         Meant::Condition => "with this condition left out",
     }

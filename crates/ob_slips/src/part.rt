@@ -73,7 +73,7 @@ fn part_at(site: &Site<'_, '_>) -> Option<Part>
 }
 
 /// Whether the first of these tokens with which a section begins is a BEGIN.
-fn is_in_body(tokens: &[Token]) -> bool
+pub(crate) fn is_in_body(tokens: &[Token]) -> bool
     ensures { result ≡ is_in_body tokens.now }
 {
     is_kind(section_of(tokens), Kind::Begin)
@@ -169,7 +169,7 @@ fn leads_to_part(kind: Kind) -> bool
 }
 
 /// Whether a part ends before a token.
-fn ends_part(kind: Kind) -> bool
+pub(crate) fn ends_part(kind: Kind) -> bool
     ensures { result ≡ ends_part kind }
 {
     matches!(

@@ -4,17 +4,21 @@ ghost use Rattle.std.specs.Prelude.{◌≡◌, IfOk};
 ghost use Rattle.std.specs.Char.{is_ascii_uppercase};
 ghost use Rattle.std.specs.List.{list_all};
 ghost use Rattle.ob_evidence.specs.Sites.{scene_of};
-ghost use Rattle.ob_slips.specs.Slips.{IsLineMending, IsMending, IsNamedMending, IsRuleMending, IsTokenMending, IsUnexpectedMending};
-ghost use Rattle.ob_slips.specs.Slips.{begins_part, ends_line, is_further, is_misspelt, is_off, lacks_semicolon};
+ghost use Rattle.ob_slips.specs.Slips.{IsCallMending, IsGapMending, IsLineMending, IsMending, IsNamedMending, IsRuleMending, IsTokenMending, IsUnexpectedMending, IsUnknownMending};
+ghost use Rattle.ob_slips.specs.Slips.{begins_part, is_further, is_misspelt, is_off, lacks_semicolon};
 
+use crate::marks::{ends_line, mark_mending};
 use crate::mending::{Meant, Mending, origin, put};
 use crate::part::part_mending;
 use crate::signs::sign_mending;
-use crate::word_mending::{end_mending, keyword_mending, near_mending};
+use crate::word_mending::{
+    alone_mending, colon_mending, end_mending, keyword_mending, near_mending,
+};
+use crate::words::{alone_before, alone_there};
 use ob_check::TextFault;
 use ob_evidence::small_keywords::first_of_statement;
 use ob_evidence::text_site::{Site, look_around};
-use ob_messages::place::{halves, shown_place};
+use ob_messages::place::halves;
 use ob_parser::parser::ParseFault;
 use ob_scan::{Kind, ScanFault, Token};
 use ob_scopes::fault::CheckFault;
@@ -65,9 +69,28 @@ fn named_mending(
     ensures { IfOk result (IsNamedMending text.now rule place) }
 {
     match rule {
-        Rule::UnknownName => near_mending(alloc, text, place),
+        Rule::UnknownName => unknown_mending(alloc, text, place),
         _ => Ok(None),
     }
+}
+
+/// The mending of a name of which none is visible: of a keyword that stands alone, else by a near name.
+fn unknown_mending(alloc: Global, text: &[u8], place: usize) -> Result<Option<Mending>, AllocError>
+    ensures { IfOk result (IsUnknownMending text.now place) }
+{
+    if let Some(mending) = call_mending(alloc, text, place)? {
+        return Ok(Some(mending));
+    }
+    near_mending(alloc, text, place)
+}
+
+/// The mending of a keyword that stands alone at a place, as a call.
+fn call_mending(alloc: Global, text: &[u8], place: usize) -> Result<Option<Mending>, AllocError>
+    ensures { IfOk result (IsCallMending text.now place) }
+{
+    let found = look_around(alloc, text, place)?;
+    let site = found.site(text, place);
+    keyword_mending(alloc, &site, alone_there(&site))
 }
 
 /// The mending at a place where a token can't stand.
@@ -82,7 +105,7 @@ fn unexpected_mending(
     token_mending(alloc, &found.site(text, place))
 }
 
-/// The same, with what is found around the place: that of a sign, else of a keyword, else of a line.
+/// The same, with what is found around the place: that of a sign, else of a keyword, else of what is missing there or too much.
 fn token_mending(alloc: Global, site: &Site<'_, '_>) -> Result<Option<Mending>, AllocError>
     ensures { IfOk result (IsTokenMending (scene_of site.now)) }
 {
@@ -96,6 +119,23 @@ fn token_mending(alloc: Global, site: &Site<'_, '_>) -> Result<Option<Mending>, 
         return Ok(Some(mending));
     }
     if let Some(mending) = keyword_mending(alloc, site, first_of_statement(site))? {
+        return Ok(Some(mending));
+    }
+    gap_mending(alloc, site)
+}
+
+/// The same, where no sign and no keyword is a slip: that of a mark, else of a keyword before a `:` or
+/// alone, else of a line.
+fn gap_mending(alloc: Global, site: &Site<'_, '_>) -> Result<Option<Mending>, AllocError>
+    ensures { IfOk result (IsGapMending (scene_of site.now)) }
+{
+    if let Some(mending) = mark_mending(alloc, site)? {
+        return Ok(Some(mending));
+    }
+    if let Some(mending) = colon_mending(site, site.last()) {
+        return Ok(Some(mending));
+    }
+    if let Some(mending) = alone_mending(alloc, site, alone_before(site))? {
         return Ok(Some(mending));
     }
     Ok(line_mending(site, site.here()))
@@ -122,14 +162,6 @@ fn lacks_semicolon(site: &Site<'_, '_>, token: Token) -> bool
 {
     let (before, _) = halves(site.text, site.place);
     ends_line(before) && !is_misspelt(site.word_of(Some(token)), token.kind)
-}
-
-/// Whether a line feed stands among the blanks at the end.
-fn ends_line(bytes: &[u8]) -> bool
-    ensures { result ≡ ends_line bytes.now }
-{
-    let (_, blanks) = halves(bytes, shown_place(bytes, bytes.len()));
-    blanks.contains(&b'\n')
 }
 
 /// Whether a word, of a token of this kind, has several letters, all of them capital, and begins no part.

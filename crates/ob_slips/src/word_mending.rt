@@ -4,20 +4,21 @@ ghost use Rattle.std.specs.Prelude.{◌≡◌, IfOk, option_map};
 ghost use Rattle.ob_evidence.specs.Sites.{scene_of};
 ghost use Rattle.ob_messages.specs.Remarks.{remark_of};
 ghost use Rattle.ob_messages.specs.declared.table_rows.Number.TheVariants as Numbers;
-ghost use Rattle.ob_slips.specs.Slips.{IsKeywordMending, IsNameMending, end_named, in_capitals, near_named, renaming, unless_hint};
+ghost use Rattle.ob_slips.specs.Slips.{IsAloneMending, IsColonMending, IsKeywordMending, IsNameMending, end_named, in_capitals, near_named, renaming, unless_hint};
 
 use crate::mending::{Meant, Mending};
+use crate::words::{foreign_mending, is_before_colon};
 use ob_diagnosis::module_remark::remark_on;
 use ob_evidence::nearest_names::{end_name, is_near, near_name};
 use ob_evidence::small_keywords::small_keyword;
-use ob_evidence::text_site::{Site, look_around};
+use ob_evidence::text_site::{Site, line_of, look_around};
 use ob_explain_words::distance::{Named, bytes_of};
 use ob_messages::remark::Remark;
 use ob_messages::table_rows::Number;
 use ob_scan::Token;
 use std::alloc::{AllocError, Global};
 
-/// The mending of a token, if it is a keyword in small letters.
+/// The mending of a token, if it is a keyword in small letters or a word of another language.
 pub(crate) fn keyword_mending(
     alloc: Global,
     site: &Site<'_, '_>,
@@ -29,19 +30,51 @@ pub(crate) fn keyword_mending(
         return Ok(None);
     };
     match small_keyword(alloc, site, name)? {
-        Some(_keyword) => Ok(Some(in_capitals(site, name))),
+        Some(_keyword) => Ok(Some(in_capitals(site, name, Meant::Capitals))),
+        None => Ok(foreign_mending(site, name)),
+    }
+}
+
+/// The mending of a token before the place that stands alone, if it is a keyword in small letters.
+pub(crate) fn alone_mending(
+    alloc: Global,
+    site: &Site<'_, '_>,
+    token: Option<Token>,
+) -> Result<Option<Mending>, AllocError>
+    ensures { IfOk result (IsAloneMending (scene_of site.now) token) }
+{
+    let Some(name) = token else {
+        return Ok(None);
+    };
+    match small_keyword(alloc, site, name)? {
+        Some(_keyword) => {
+            let line = line_of(site.text, Some(name));
+            Ok(Some(in_capitals(site, name, Meant::Alone(line))))
+        }
         None => Ok(None),
     }
 }
 
-/// A name in capitals.
-fn in_capitals(site: &Site<'_, '_>, name: Token) -> Mending
-    ensures { result ≡ in_capitals (scene_of site.now) name }
+/// The mending of the token before a `:`, if it is a keyword in small letters.
+pub(crate) fn colon_mending(site: &Site<'_, '_>, token: Option<Token>) -> Option<Mending>
+    ensures { IsColonMending (scene_of site.now) token result }
+{
+    match token {
+        Some(name) if is_before_colon(site, name) => {
+            Some(in_capitals(site, name, Meant::Capitals))
+        }
+        _ => None,
+    }
+}
+
+/// A name in capitals, by this meaning.
+fn in_capitals(site: &Site<'_, '_>, name: Token, meant: Meant) -> Mending
+    ensures { result ≡ in_capitals (scene_of site.now) name meant }
 {
     let length = site.word_of(Some(name)).len();
     Mending {
         place: name.start,
-        meant: Meant::Capitals,
+        meant,
         taken: length,
         put: length,
     }

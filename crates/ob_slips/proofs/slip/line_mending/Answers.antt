@@ -1,6 +1,6 @@
 use Rattle.std.proofs.Common.{◌∙◌, sym}
 use Rattle.std.proofs.lemmas.Bool.{false≢true}
-use Rattle.ob_slips.specs.Slips.{fails, holds}
+use Rattle.ob_slips.specs.Wheres.{fails, holds}
 use Rattle.ob_slips.proofs.slip.line_mending.Goals as goal
 
 pub returns-in-Some : goal.returns-in-Some

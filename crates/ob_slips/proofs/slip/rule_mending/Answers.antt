@@ -1,6 +1,7 @@
 use Rattle.std.proofs.Common.{None, Some}
 use Rattle.std.proofs.lemmas.Result.{IfOk-weaker}
-use Rattle.ob_slips.specs.Slips.{IsNamedMending, first, other}
+use Rattle.ob_slips.specs.Slips.{IsNamedMending}
+use Rattle.ob_slips.specs.Wheres.{first, other}
 use Rattle.ob_slips.proofs.slip.rule_mending.Goals as goal
 
 pub returns-in-Some : goal.returns-in-Some

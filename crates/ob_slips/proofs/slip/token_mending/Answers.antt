@@ -1,7 +1,9 @@
 use Rattle.std.proofs.Common.{◌≡◌, Option, subst}
+use Rattle.std.proofs.lemmas.Result.{IfOk-weaker}
 use Rattle.ob_evidence.specs.Sites.{Scene, scene_of}
 use Rattle.ob_scan.specs.declared.token.Token.{Token}
-use Rattle.ob_slips.specs.Slips.{IsKeywordMending, IsLineMending, first, other}
+use Rattle.ob_slips.specs.Slips.{IsKeywordMending}
+use Rattle.ob_slips.specs.Wheres.{first, other}
 use Rattle.ob_slips.specs.declared.mending.Mending.{Mending}
 use Rattle.ob_slips.proofs.slip.token_mending.Goals as goal
 
@@ -32,8 +34,9 @@ returns-in-Some-4 c =
 
 pub returns : goal.returns
 returns c =
-    other c.in_default.ensures
+    IfOk-weaker c.gap_mending.result _ _
+    (λ m is. other c.in_default.ensures
     (other (told _ _ _ _ _ c.here.ensures c.in_default-2.is c.in_ok-mending.ensures)
     (other (told _ _ _ _ _ c.last.ensures c.in_default-3.is c.in_ok-mending-2.ensures)
-    (other (told _ _ _ _ _ c.first_of_statement.ensures c.in_default-4.is c.in_ok-mending-3.ensures)
-    (subst (λ (t : Option Token). IsLineMending (scene_of c.args.site.now) t c.line_mending.result) c.here-2.ensures c.line_mending.ensures))))
+    (other (told _ _ _ _ _ c.first_of_statement.ensures c.in_default-4.is c.in_ok-mending-3.ensures) is))))
+    c.gap_mending.ensures
