@@ -1,6 +1,6 @@
 -- Which slips are known: the mending of a fault is that of a sign, else of a word, else of a token that is missing or too much. Where a
 -- rule is broken by no slip, the statement or the condition is left out.
-use Rattle.std.specs.Prelude.{◌≡◌, ◌==◌, ◌&&◌, ℕ, nat_lt, max, not, Bool, IsTrue, true, false, List, drop, length, take, Option, None, Some, option_map, if◌then◌else◌}
+use Rattle.std.specs.Prelude.{◌≡◌, ◌==◌, ◌&&◌, ℕ, nat_lt, max, not, Bool, IsTrue, true, false, List, length, take, Option, None, Some, option_map, if◌then◌else◌}
 use Rattle.std.specs.Char.{is_ascii_uppercase}
 use Rattle.std.specs.List.{list_all}
 use Rattle.ob_check.specs.declared.module_text.TextFault.{TextFault}
@@ -26,8 +26,7 @@ use Rattle.ob_slips.specs.Mendings.{origin, put}
 use Rattle.ob_slips.specs.Parts.{IsPartMending}
 use Rattle.ob_slips.specs.Signs.{IsSignMending}
 use Rattle.ob_slips.specs.Wheres.{IsElse, IsWhere}
-use Rattle.ob_slips.specs.Words.{IsForeignMending, alone_before, alone_there, is_before_colon}
-use Rattle.ob_slips.specs.declared.mending.Meant.{Meant}
+use Rattle.ob_slips.specs.Words.{IsForeignMending, alone_before, alone_there, in_its_place, is_before_colon}
 use Rattle.ob_slips.specs.declared.mending.Meant.TheVariants as Means
 use Rattle.ob_slips.specs.declared.mending.Mending.{Mending}
 use Rattle.ob_typing.specs.declared.rule.Rule.{Rule}
@@ -35,25 +34,17 @@ use Rattle.ob_typing.specs.declared.rule.Rule.TheVariants as Rules
 
 -- ---- words
 
-abbrev pub in_capitals : Scene → (name : Token) → Meant → Mending
-in_capitals s name meant = record {
-  place = name.start;
-  meant = meant;
-  taken = length (word_of s.text (Some name));
-  put = length (word_of s.text (Some name));
-}
-
 -- of a token that is a keyword in small letters, or a word of another language that has a keyword or a sign here
 abbrev pub IsKeywordMending : Scene → Option Token → Option Mending → Type 0
 IsKeywordMending s None m = m ≡ None
 IsKeywordMending s (Some name) m =
-    IsElse (IsWhere ((keyword : Kind) × IsSmallKeyword s name keyword) (in_capitals s name Means.Capitals)) (IsForeignMending s name) m
+    IsElse (IsWhere ((keyword : Kind) × IsSmallKeyword s name keyword) (in_its_place s name Means.Capitals)) (IsForeignMending s name) m
 
 -- of a token before the place that is a keyword in small letters, and stands in another line
 abbrev pub IsAloneMending : Scene → Option Token → Option Mending → Type 0
 IsAloneMending s None m = m ≡ None
 IsAloneMending s (Some name) m =
-    IsWhere ((keyword : Kind) × IsSmallKeyword s name keyword) (in_capitals s name (Means.Alone (line_of s.text (Some name)))) m
+    IsWhere ((keyword : Kind) × IsSmallKeyword s name keyword) (in_its_place s name (Means.Alone (line_of s.text (Some name)))) m
 
 -- a name in place of the word there
 abbrev pub renaming : Scene → Named → Mending
@@ -120,7 +111,7 @@ IsLineMending s (Some token) m = IsWhere (IsTrue (lacks_semicolon s token)) (sem
 -- of the token before a `:` that is a keyword in small letters
 abbrev pub IsColonMending : Scene → Option Token → Option Mending → Type 0
 IsColonMending s None m = m ≡ None
-IsColonMending s (Some name) m = IsWhere (IsTrue (is_before_colon s name)) (in_capitals s name Means.Capitals) m
+IsColonMending s (Some name) m = IsWhere (IsTrue (is_before_colon s name)) (in_its_place s name Means.Capitals) m
 
 -- a token is missing or stands for another one; else a keyword stands before a `:`; else one stands alone before the place, as in
 -- `IF b THEN x := 1; end; y := 2 END M.`; else a `;` is missing

@@ -57,17 +57,18 @@ lone =
 abbrev pub same_in : List Foreign → (word : List ℕ) → Option Foreign
 same_in words word = find (λ f. is_same_in_any_case word f.word) words
 
-abbrev pub in_place_of_word : Scene → (name : Token) → Foreign → Mending
-in_place_of_word s name f = record {
+-- what is meant by a name, in its place
+abbrev pub in_its_place : Scene → (name : Token) → Meant → Mending
+in_its_place s name meant = record {
   place = name.start;
-  meant = f.meant;
+  meant = meant;
   taken = length (word_of s.text (Some name));
-  put = max (length (put f.meant)) (length (word_of s.text (Some name)));
+  put = max (length (put meant)) (length (word_of s.text (Some name)));
 }
 
 abbrev pub IsWordMending : Scene → (name : Token) → Option Foreign → Option Mending → Type 0
 IsWordMending s name None m = m ≡ None
-IsWordMending s name (Some f) m = IsWhere (IsNew s name) (in_place_of_word s name f) m
+IsWordMending s name (Some f) m = IsWhere (IsNew s name) (in_its_place s name f.meant) m
 
 -- of a name that is such a word, where the text does not declare it
 abbrev pub IsForeignMending : Scene → (name : Token) → Option Mending → Type 0

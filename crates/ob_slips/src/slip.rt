@@ -175,13 +175,7 @@ fn is_misspelt(word: &[u8], kind: Kind) -> bool
 fn are_capital(word: &[u8]) -> bool
     ensures { result ≡ list_all is_ascii_uppercase word.now }
 {
-    word.iter().all(|byte| is_capital(*byte))
-}
-
-fn is_capital(byte: u8) -> bool
-    ensures { result ≡ is_ascii_uppercase byte }
-{
-    byte.is_ascii_uppercase()
+    word.iter().all(|byte| byte.is_ascii_uppercase())
 }
 
 /// Whether a `;` may be missing before a keyword.

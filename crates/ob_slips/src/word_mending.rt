@@ -4,10 +4,10 @@ ghost use Rattle.std.specs.Prelude.{◌≡◌, IfOk, option_map};
 ghost use Rattle.ob_evidence.specs.Sites.{scene_of};
 ghost use Rattle.ob_messages.specs.Remarks.{remark_of};
 ghost use Rattle.ob_messages.specs.declared.table_rows.Number.TheVariants as Numbers;
-ghost use Rattle.ob_slips.specs.Slips.{IsAloneMending, IsColonMending, IsKeywordMending, IsNameMending, end_named, in_capitals, near_named, renaming, unless_hint};
+ghost use Rattle.ob_slips.specs.Slips.{IsAloneMending, IsColonMending, IsKeywordMending, IsNameMending, end_named, near_named, renaming, unless_hint};
 
 use crate::mending::{Meant, Mending};
-use crate::words::{foreign_mending, is_before_colon};
+use crate::words::{foreign_mending, in_its_place, is_before_colon};
 use ob_diagnosis::module_remark::remark_on;
 use ob_evidence::nearest_names::{end_name, is_near, near_name};
 use ob_evidence::small_keywords::small_keyword;
@@ -30,7 +30,7 @@ pub(crate) fn keyword_mending(
         return Ok(None);
     };
     match small_keyword(alloc, site, name)? {
-        Some(_keyword) => Ok(Some(in_capitals(site, name, Meant::Capitals))),
+        Some(_keyword) => Ok(Some(in_its_place(site, name, Meant::Capitals))),
         None => Ok(foreign_mending(site, name)),
     }
 }
@@ -49,7 +49,7 @@ pub(crate) fn alone_mending(
     match small_keyword(alloc, site, name)? {
         Some(_keyword) => {
             let line = line_of(site.text, Some(name));
-            Ok(Some(in_capitals(site, name, Meant::Alone(line))))
+            Ok(Some(in_its_place(site, name, Meant::Alone(line))))
         }
         None => Ok(None),
     }
@@ -61,22 +61,9 @@ pub(crate) fn colon_mending(site: &Site<'_, '_>, token: Option<Token>) -> Option
 {
     match token {
         Some(name) if is_before_colon(site, name) => {
-            Some(in_capitals(site, name, Meant::Capitals))
+            Some(in_its_place(site, name, Meant::Capitals))
         }
         _ => None,
-    }
-}
-
-/// A name in capitals, by this meaning.
-fn in_capitals(site: &Site<'_, '_>, name: Token, meant: Meant) -> Mending
-    ensures { result ≡ in_capitals (scene_of site.now) name meant }
-{
-    let length = site.word_of(Some(name)).len();
-    Mending {
-        place: name.start,
-        meant,
-        taken: length,
-        put: length,
     }
 }
 

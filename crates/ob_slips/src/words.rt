@@ -3,7 +3,7 @@
 ghost use Rattle.std.specs.Prelude.{◌≡◌, ◌↔◌, IsTrue, find, map, nat_lt, option_map};
 ghost use Rattle.ob_evidence.specs.Keywords.{IsNew};
 ghost use Rattle.ob_evidence.specs.Sites.{scene_of};
-ghost use Rattle.ob_slips.specs.Words.{IsForeignMending, alone_before, alone_there, ends_or_begins, foreign_of, foreigns, in_place_of_word, is_alone};
+ghost use Rattle.ob_slips.specs.Words.{IsForeignMending, alone_before, alone_there, ends_or_begins, foreign_of, foreigns, in_its_place, is_alone};
 ghost use Rattle.ob_slips.specs.Words.{is_before_colon, is_lone, lone, same_in};
 
 use crate::mending::{Meant, Mending, put};
@@ -57,7 +57,7 @@ pub(crate) fn foreign_mending(site: &Site<'_, '_>, name: Token) -> Option<Mendin
     ensures { IsForeignMending (scene_of site.now) name result }
 {
     match first_same(known(), site.word_of(Some(name))) {
-        Some(word) if is_new(site, name) => Some(in_place_of_word(site, name, word)),
+        Some(word) if is_new(site, name) => Some(in_its_place(site, name, word.meant)),
         _ => None,
     }
 }
@@ -94,16 +94,16 @@ fn is_new(site: &Site<'_, '_>, name: Token) -> bool
     is_kind(Some(name), Kind::Ident) && !declares(site.text, site.tokens, site.word_of(Some(name)))
 }
 
-/// What is meant by a word, in its place.
-fn in_place_of_word(site: &Site<'_, '_>, name: Token, word: Foreign) -> Mending
-    ensures { result ≡ in_place_of_word (scene_of site.now) name (foreign_of word) }
+/// What is meant by a name, in its place.
+pub(crate) fn in_its_place(site: &Site<'_, '_>, name: Token, meant: Meant) -> Mending
+    ensures { result ≡ in_its_place (scene_of site.now) name meant }
 {
     let length = site.word_of(Some(name)).len();
     Mending {
         place: name.start,
-        meant: word.meant,
+        meant,
         taken: length,
-        put: put(word.meant).len().max(length),
+        put: put(meant).len().max(length),
     }
 }
 
@@ -136,28 +136,36 @@ pub(crate) fn alone_before(site: &Site<'_, '_>) -> Option<Token>
     ensures { result ≡ alone_before (scene_of site.now) }
 {
     if is_kind(site.last(), Kind::End) || ends_or_begins(kind_or_name(site.here())) {
-        site.before
-            .iter()
-            .copied()
-            .find(|token| is_alone(site, *token))
+        nearest_alone(site)
     } else {
         None
     }
+}
+
+/// The nearest word before the place that stands alone.
+fn nearest_alone(site: &Site<'_, '_>) -> Option<Token>
+    ensures { result ≡ find (λ t. is_alone (scene_of site.now) t) site.now.before.now }
+{
+    site.before
+        .iter()
+        .copied()
+        .find(|token| is_alone(site, *token))
 }
 
 /// Whether a token up to the place is such a name, and a whole statement.
 fn is_alone(site: &Site<'_, '_>, token: Token) -> bool
     ensures { result ≡ is_alone (scene_of site.now) token }
 {
-    let place = token.start;
-    let last = site
-        .before
-        .iter()
-        .copied()
-        .find(|other| other.start < place);
     is_lone(site, token)
-        && ends_part(kind_or_name(next_behind(site.tokens, place)))
-        && leads_to_statement(kind_or_name(last))
+        && ends_part(kind_or_name(next_behind(site.tokens, token.start)))
+        && leads_to_statement(kind_or_name(last_before(site.before, token.start)))
+}
+
+/// The first of these tokens that begins before a place.
+fn last_before(tokens: &[Token], place: usize) -> Option<Token>
+    ensures { result ≡ find (λ u. nat_lt u.start place) tokens.now }
+{
+    tokens.iter().copied().find(|token| token.start < place)
 }
 
 /// Whether a construct ends or a section begins with a keyword.

@@ -21,22 +21,25 @@ returns-in-Some c =
     let is : IsMarkMending (scene_of c.args.site.now) (Some c.in-Some.mending) = rw c.in-Some.is at c.in_ok-mending.ensures in
     first c.in-Some.mending is
 
+pub returns-in-Some-colon_mending : goal.returns-in-Some-colon_mending
+returns-in-Some-colon_mending c =
+    let none : IsMarkMending (scene_of c.args.site.now) None = rw c.in_default.is at c.in_ok-mending.ensures in
+    other none
+    (first c.in-Some-colon_mending.mending
+    (colon (scene_of c.args.site.now) _ _ _ _ c.last.ensures c.in-Some-colon_mending.is c.colon_mending.ensures))
+
 pub returns-in-Some-2 : goal.returns-in-Some-2
 returns-in-Some-2 c =
     let none : IsMarkMending (scene_of c.args.site.now) None = rw c.in_default.is at c.in_ok-mending.ensures in
-    other none (first c.in-Some-2.mending (colon _ _ _ _ _ c.last.ensures c.in-Some-2.is c.colon_mending.ensures))
-
-pub returns-in-Some-3 : goal.returns-in-Some-3
-returns-in-Some-3 c =
-    let none : IsMarkMending (scene_of c.args.site.now) None = rw c.in_default.is at c.in_ok-mending.ensures in
     other none
-    (other (colon _ _ _ _ _ c.last.ensures c.in_default-2.is c.colon_mending.ensures)
-    (first c.in-Some-3.mending (alone _ _ _ _ _ c.alone_before.ensures c.in-Some-3.is c.in_ok-mending-2.ensures)))
+    (other (colon (scene_of c.args.site.now) _ _ _ _ c.last.ensures c.in_default-colon_mending.is c.colon_mending.ensures)
+    (first c.in-Some-2.mending
+    (alone (scene_of c.args.site.now) _ _ _ _ c.alone_before.ensures c.in-Some-2.is c.in_ok-mending-2.ensures)))
 
 pub returns : goal.returns
 returns c =
     let none : IsMarkMending (scene_of c.args.site.now) None = rw c.in_default.is at c.in_ok-mending.ensures in
     other none
-    (other (colon _ _ _ _ _ c.last.ensures c.in_default-2.is c.colon_mending.ensures)
-    (other (alone _ _ _ _ _ c.alone_before.ensures c.in_default-3.is c.in_ok-mending-2.ensures)
+    (other (colon (scene_of c.args.site.now) _ _ _ _ c.last.ensures c.in_default-colon_mending.is c.colon_mending.ensures)
+    (other (alone (scene_of c.args.site.now) _ _ _ _ c.alone_before.ensures c.in_default-2.is c.in_ok-mending-2.ensures)
     (subst (λ (t : Option Token). IsLineMending (scene_of c.args.site.now) t c.line_mending.result) c.here.ensures c.line_mending.ensures)))

@@ -1,6 +1,6 @@
 use Rattle.std.proofs.Common.{◌≡◌, Option, subst}
 use Rattle.std.proofs.lemmas.Result.{IfOk-weaker}
-use Rattle.ob_evidence.specs.Sites.{Scene, scene_of}
+use Rattle.ob_evidence.specs.Sites.{Scene}
 use Rattle.ob_scan.specs.declared.token.Token.{Token}
 use Rattle.ob_slips.specs.Slips.{IsKeywordMending}
 use Rattle.ob_slips.specs.Wheres.{first, other}

@@ -7,7 +7,7 @@ use Rattle.ob_slips.proofs.word_mending.keyword_mending.Goals as goal
 pub returns-in-Some-2 : goal.returns-in-Some-2
 returns-in-Some-2 c =
     let small : IsSmallKeyword (scene_of c.args.site.now) c.in-Some.name c.in-Some-2._keyword = rw c.in-Some-2.is at c.in_ok-_keyword.ensures in
-    rw (c.in-Some.is, c.in_capitals.ensures) (first _ (holds (c.in-Some-2._keyword, small)))
+    rw (c.in-Some.is, c.in_its_place.ensures) (first _ (holds (c.in-Some-2._keyword, small)))
 
 pub returns-in-None : goal.returns-in-None
 returns-in-None c =

@@ -1,4 +1,4 @@
-use Rattle.std.proofs.Common.{◌≡◌, ◌∙◌, List, Option, Some, None, ap, map, option_map, sym, ℕ}
+use Rattle.std.proofs.Common.{◌≡◌, ◌∙◌, List, Option, Some, ap, option_map, sym, ℕ}
 use Rattle.std.proofs.lemmas.Bool.{false≢true}
 use Rattle.ob_evidence.specs.Sites.{scene_of, word_of}
 use Rattle.ob_slips.specs.Wheres.{fails, holds}
@@ -17,7 +17,7 @@ pub returns-in-Some : goal.returns-in-Some
 returns-in-Some c =
     let is : same_in foreigns (word_of (scene_of c.args.site.now).text (Some c.args.name)) ≡ Some (foreign_of c.in-Some.word) =
     found _ _ _ _ _ c.known.ensures c.word_of.ensures c.in-Some.is c.first_same.ensures in
-    rw (is, c.in_place_of_word.ensures) (holds (c.is_new.ensures.0 c.if-is_new.true))
+    rw (is, c.in_its_place.ensures) (holds (c.is_new.ensures.0 c.if-is_new.true))
 
 pub returns-in_default : goal.returns-in_default
 returns-in_default c =
