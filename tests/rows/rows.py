@@ -23,6 +23,8 @@ FAULT = re.compile(rb"[A-Z]\d+( (at|trap|line|item|process) \d+|( \d+\.\d+)+( by
 REFUSAL = re.compile(rb"(NoMemory|cannot [^\n]*)\n")
 # that a sentence is shown at a place of a file
 EXPLAINED = re.compile(r"shown in (\w+) at (\d+): (.*)")
+# that a text with a mending has its next fault at a place
+THEN = re.compile(r" / (with.*?), then at (\d+): ")
 # that a call traps, at a place of a file
 TRAPPED = re.compile(r"(call \d+\.\d+, line \d+ of \w+: trap \d), shown in (\w+) at (\d+): (.*)")
 # that an opening traps, at a place of a file
@@ -156,6 +158,16 @@ def explained(name, text, place, sentence):
     return b"".join(it + b"\n" for it in (at.encode(), seen, below + b"^", named + said.encode()))
 
 
+def explained_in_turn(row, name, told):
+    """The same of one fault behind the other: each stands behind ` / `, how the text was mended before it, and its place. Where it isn't said
+    that the text with the last mending has no other fault, there may be more in a module."""
+    text, shown, faults = expand(row.files[name]), b"", THEN.split(told)[1:]
+    for mending, place, sentence in zip(faults[::3], faults[1::3], faults[2::3]):
+        shown += f"{mending}, the next fault is:\n".encode() if shown else b""
+        shown += explained(name, text, int(place), sentence)
+    return shown + (MORE if name == row.words.split()[1] and " / with " not in faults[-1] else b"")
+
+
 def answered(row, answer):
     """The row with the answer of a table: 'is read', 'nothing', what is shown, a trap, the line of a fault, or what is printed."""
     if not answer:
@@ -166,8 +178,7 @@ def answered(row, answer):
         return replace(row, out=b"", err=b"")
     told = EXPLAINED.fullmatch(answer)
     if told:
-        more = MORE if told[1] == row.words.split()[1] and " / with " not in told[3] else b""
-        return replace(row, out=b"", err=explained(told[1], expand(row.files[told[1]]), int(told[2]), told[3]) + more)
+        return replace(row, out=b"", err=explained_in_turn(row, told[1], f" / with, then at {told[2]}: {told[3]}"))
     trap = TRAPPED.fullmatch(answer)
     if trap:
         shown = explained(trap[2], expand(row.files[trap[2]]), int(trap[3]), trap[4])

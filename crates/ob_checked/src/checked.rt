@@ -36,7 +36,7 @@ impl Drop for Checked {
 
 impl Checked {
     ghost use Rattle.std.specs.Prelude.{◌≡◌, map};
-    ghost use Rattle.ob_grammar.specs.Conditions.{KeepsConditions};
+    ghost use Rattle.ob_grammar.specs.EndNamesAndNesting.{KeepsConditions};
     ghost use Rattle.ob_grammar.specs.View.{module_of};
     ghost use Rattle.ob_interface.specs.View.{signature_of};
     ghost use Rattle.ob_typing.specs.Declarations.{WellTyped};

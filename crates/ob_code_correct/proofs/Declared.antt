@@ -4,7 +4,7 @@ use Rattle.std.specs.Prelude.{ℤ, pos, negsuc, ◌&&◌, flat_map, nat_le}
 use Rattle.std.proofs.lemmas.Bool.{and_parts, leb-true}
 use Rattle.std.proofs.lemmas.List.Elements.{All-nil, All-cons, All-append}
 use Rattle.ob_interface.specs.declared.scalar.Scalar.{Scalar}
-use Rattle.ob_grammar.specs.Conditions.{opening, in_expr, in_body, in_constants, in_types, in_variables, in_parameters, in_declarations, in_procedures, differing}
+use Rattle.ob_grammar.specs.EndNamesAndNesting.{opening, in_expr, in_body, in_constants, in_types, in_variables, in_parameters, in_declarations, in_procedures, differing}
 use Rattle.ob_grammar.specs.Tree
 use Rattle.ob_grammar.specs.Tree.{TypeExpr, FieldLists, ConstDecl, TypeDecl, VarDecl, DeclarationPart, Section, Declarations, Procedures}
 use Rattle.ob_typing.specs.Program

@@ -8,7 +8,7 @@ use Rattle.std.proofs.lemmas.Option.{slice_get_within, get_or_from_slice_get}
 use Rattle.std.proofs.lemmas.List.Sums.{sum_by-append}
 use Rattle.ob_scan.specs.Lexemes.{lexemes}
 use Rattle.ob_scan.proofs.TokenFacts.{lexemes_spelled}
-use Rattle.ob_grammar.specs.Conditions.{in_declarations, in_body, differing, KeepsConditions}
+use Rattle.ob_grammar.specs.EndNamesAndNesting.{in_declarations, in_body, differing, KeepsConditions}
 use Rattle.ob_grammar.specs.Texts.{HasText}
 use Rattle.ob_grammar.specs.Tree
 use Rattle.ob_grammar.specs.Tree.{Module}

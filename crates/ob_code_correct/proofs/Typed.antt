@@ -8,7 +8,7 @@ use Rattle.ob_interface.specs.declared.scalar.Scalar.TheVariants.{Int, Bool as T
 use Rattle.ob_interface.specs.declared.scalar.ScalarType.{ScalarType}
 use Rattle.ob_interface.specs.declared.scalar.ScalarType.TheVariants.{Integer}
 use Rattle.ob_grammar.specs.declared.tree.Sign.{Sign}
-use Rattle.ob_grammar.specs.Conditions.{too_deep, opening, in_expr, in_operands, in_selectors, in_actuals, in_stmt, in_stmts, in_branches, in_otherwise, in_body}
+use Rattle.ob_grammar.specs.EndNamesAndNesting.{too_deep, opening, in_expr, in_operands, in_selectors, in_actuals, in_stmt, in_stmts, in_branches, in_otherwise, in_body}
 use Rattle.ob_grammar.specs.Tree
 use Rattle.ob_grammar.specs.Tree.{Expr, Operands, Stmt, Stmts, Branches, Otherwise}
 use Rattle.ob_typing.specs.declared.operator.BinaryOperator.{BinaryOperator}

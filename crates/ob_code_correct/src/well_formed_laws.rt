@@ -2,7 +2,7 @@
 
 ghost use Rattle.std.specs.Prelude.{List, ℕ};
 ghost use Rattle.ob_checked.specs.CheckedModule.{program_in};
-ghost use Rattle.ob_grammar.specs.Conditions.{KeepsConditions};
+ghost use Rattle.ob_grammar.specs.EndNamesAndNesting.{KeepsConditions};
 ghost use Rattle.ob_grammar.specs.Texts.{HasText};
 ghost use Rattle.ob_grammar.specs.Tree.{Module};
 ghost use Rattle.ob_typing.specs.Declarations.{WellTyped};

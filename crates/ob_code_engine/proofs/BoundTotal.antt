@@ -9,7 +9,7 @@ use Rattle.ob_code_scheme.specs.WellFormed.{IsWellFormed}
 use Rattle.wf_table.specs.declared.process.Sizes.{Sizes}
 use Rattle.wf_table.specs.Meaning.{Meaning}
 use Rattle.wf_table.specs.Law.{IsLawful}
-use Rattle.wf_table.specs.Table.{Process}
+use Rattle.wf_table.specs.StepTable.{Process}
 use Rattle.wf_table.specs.Object.{State, script_by, script_of}
 use Rattle.wf_table.specs.Runs.{Act, ActsFit, IsRun, run}
 use Rattle.wf_table.specs.Scripts.{CallsFit}

@@ -12,7 +12,7 @@ use Rattle.wf_table.specs.declared.process.Sizes.{Sizes}
 use Rattle.wf_table.specs.Meaning.{Meaning}
 use Rattle.wf_table.specs.Object.{State, submit_by, submit_of}
 use Rattle.wf_table.specs.Runs.{ActsFit, run, submissions, turns}
-use Rattle.wf_table.specs.Table.{Process}
+use Rattle.wf_table.specs.StepTable.{Process}
 use Rattle.ob_desk_floor.specs.Floor.{with_submissions}
 use Rattle.ob_desk_floor.specs.Submission.{submission_of}
 use Rattle.ob_desk_floor.specs.declared.submission.Submission.{Submission}

@@ -12,12 +12,12 @@ use Rattle.ob_typing.specs.declared.rule.Rule.TheVariants as Rules
 use Rattle.ob_evidence.specs.Evidence.{IsTrueOf}
 use Rattle.ob_evidence.specs.Sites.{IsScene, Scene, here, kind_of, last, next, second}
 use Rattle.ob_explain_words.specs.Declaring.{Declares}
-use Rattle.ob_messages.specs.Places.{shown_place}
-use Rattle.ob_messages.specs.Remarks.{Remark}
-use Rattle.ob_messages.specs.Said.{Evidence, hint_text, sentence_text}
-use Rattle.ob_messages.specs.declared.matcher.View.{View}
-use Rattle.ob_messages.specs.declared.table_rows.Number.{Number}
-use Rattle.ob_messages.specs.declared.table_rows.Number.TheVariants as Numbers
+use Rattle.ob_explain_sentences.specs.Places.{shown_place}
+use Rattle.ob_explain_sentences.specs.Remarks.{Remark}
+use Rattle.ob_explain_sentences.specs.Said.{Evidence, hint_text, sentence_text}
+use Rattle.ob_explain_sentences.specs.declared.matcher.View.{View}
+use Rattle.ob_explain_sentences.specs.declared.table_rows.Number.{Number}
+use Rattle.ob_explain_sentences.specs.declared.table_rows.Number.TheVariants as Numbers
 
 -- where a place is shown: the end, at which a token is missing, behind the last byte that is no blank
 abbrev pub shown_at : Number → (text : List ℕ) → (place : ℕ) → ℕ

@@ -1,13 +1,18 @@
 //! What words are: of another language, or keywords but for small letters; types.
 
-use ob_messages::matcher::{View, word_hint};
-use ob_messages::table_rows::Number;
+use ob_explain_sentences::matcher::{View, word_hint};
+use ob_explain_sentences::table_rows::Number;
 /// Types of numbers of other languages, behind which their bits may stand.
 const NUMBER_TYPES: [&str; 5] = ["INT", "UINT", "LONGINT", "SHORTINT", "CARDINAL"];
 
-/// Names that stand for types, or that other languages have.
-const TYPES: [&str; 10] = [
-    "INTEGER", "BOOLEAN", "INC", "DEC", "BOOL", "INT", "REAL", "CHAR", "STRING", "NEW",
+/// Names of types, in this language or in other ones.
+const TYPES: [&str; 7] = [
+    "INTEGER", "BOOLEAN", "BOOL", "INT", "REAL", "CHAR", "STRING",
+];
+
+/// Keywords behind which other languages have a `:`, or none.
+const BEFORE_STATEMENTS: [&str; 9] = [
+    "CONST", "TYPE", "VAR", "BEGIN", "THEN", "ELSE", "DO", "REPEAT", "END",
 ];
 
 /// Whether the tables have a hint on this word: it is one of another language, or a keyword but for small letters.
@@ -42,6 +47,11 @@ pub(crate) fn is_number_type(word: &[u8]) -> bool {
 /// Whether a word is the name of a type, in this language or in another one.
 pub(crate) fn is_type_name(word: &[u8]) -> bool {
     is_one(&TYPES, word) || is_number_type(word)
+}
+
+/// Whether a word is a keyword behind which statements or declarations stand, in small letters or large.
+pub(crate) fn begins_part(word: &[u8]) -> bool {
+    is_one(&BEFORE_STATEMENTS, word)
 }
 
 /// Whether a word is one of these, in small letters or large.

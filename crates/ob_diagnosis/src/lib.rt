@@ -5,7 +5,8 @@
 
 mod foreign;
 mod further;
-mod keywords;
+mod habits;
+pub mod keywords;
 mod missing;
 pub mod module_remark;
 mod procedure_names;

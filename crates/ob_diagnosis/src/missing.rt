@@ -5,10 +5,10 @@ use crate::procedure_names::{is_assigned, is_procedure};
 use ob_evidence::small_keywords::next_behind;
 use ob_evidence::text_site::{Site, is_kind};
 use ob_explain_names::expected::is_expected;
+use ob_explain_sentences::kinds::sample;
+use ob_explain_sentences::place::halves;
+use ob_explain_sentences::table_rows::Fact;
 use ob_explain_tokens::open::{is_unit, open_construct};
-use ob_messages::kinds::sample;
-use ob_messages::place::halves;
-use ob_messages::table_rows::Fact;
 use ob_scan::{Kind, Token};
 use std::alloc::{AllocError, Global};
 
@@ -53,15 +53,12 @@ fn ends_there(site: &Site<'_, '_>) -> bool {
 
 /// The name behind the next END behind the place.
 fn next_ended<'t>(site: &Site<'t, '_>) -> &'t [u8] {
-    let end = site
-        .behind
-        .iter()
-        .copied()
-        .find(|token| token.kind == Kind::End);
-    match end {
-        Some(end) => site.word_of(next_behind(site.tokens, end.start)),
-        None => b"",
+    for token in site.behind {
+        if token.kind == Kind::End {
+            return site.word_of(next_behind(site.tokens, token.start));
+        }
     }
+    b""
 }
 
 /// Whether the token there is an operand and begins no statement.

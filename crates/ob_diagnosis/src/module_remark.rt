@@ -3,7 +3,7 @@
 ghost use Rattle.std.specs.Prelude.{◌≡◌, IfOk, option_map};
 ghost use Rattle.ob_diagnosis.specs.Remarks.{IsCheckRemark, IsParseRemark, IsRemark, IsScanRemark, Tells, number_of};
 ghost use Rattle.ob_evidence.specs.Sites.{scene_of};
-ghost use Rattle.ob_messages.specs.Remarks.{remark_of};
+ghost use Rattle.ob_explain_sentences.specs.Remarks.{remark_of};
 
 use crate::rules::{
     actuals_remark, constant_remark, export_remark, length_remark, limit_remark, sort_remark,
@@ -12,8 +12,8 @@ use crate::rules::{
 use crate::syntax::{name_remark, unexpected_remark};
 use crate::told_by_tables::plain_remark;
 use ob_evidence::text_site::{Site, look_around};
-use ob_messages::remark::Remark;
-use ob_messages::table_rows::Number;
+use ob_explain_sentences::remark::Remark;
+use ob_explain_sentences::table_rows::Number;
 use ob_parser::parser::ParseFault;
 use ob_scan::ScanFault;
 use ob_scan::scanner::LONGEST_TEXT;

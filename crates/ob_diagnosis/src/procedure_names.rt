@@ -50,12 +50,12 @@ pub(crate) fn lists(site: &Site<'_, '_>, word: &[u8]) -> bool {
 
 /// Whether a `:=` stands behind the place before the end of the statement or of its condition.
 pub(crate) fn is_assigned(site: &Site<'_, '_>) -> bool {
-    let end = site
-        .behind
-        .iter()
-        .copied()
-        .find(|token| ends_statement(token.kind));
-    is_kind(end, Kind::Assign)
+    for token in site.behind {
+        if ends_statement(token.kind) {
+            return token.kind == Kind::Assign;
+        }
+    }
+    false
 }
 
 fn ends_statement(kind: Kind) -> bool {
@@ -94,10 +94,12 @@ pub(crate) fn ends_repeat(site: &Site<'_, '_>, could: &[Kind]) -> bool {
 
 /// Whether a DO stands behind the place before the end of the statement.
 fn leads_on(site: &Site<'_, '_>) -> bool {
-    let place = site.place;
-    let end = site.tokens.iter().copied().find(|token| place < token.start
-        && (token.kind == Kind::Do || ends_call(token.kind)));
-    is_kind(end, Kind::Do)
+    for token in site.tokens {
+        if site.place < token.start && (token.kind == Kind::Do || ends_call(token.kind)) {
+            return token.kind == Kind::Do;
+        }
+    }
+    false
 }
 
 /// Whether the construct that is open at the place stands in a REPEAT.

@@ -3,7 +3,7 @@
 ghost use Rattle.std.specs.Prelude.{IfOk};
 ghost use Rattle.ob_diagnosis.specs.Remarks.{Tells};
 ghost use Rattle.ob_evidence.specs.Sites.{scene_of};
-ghost use Rattle.ob_messages.specs.Remarks.{remark_of};
+ghost use Rattle.ob_explain_sentences.specs.Remarks.{remark_of};
 
 use crate::foreign::is_number_type;
 use crate::further::{declares_other, is_elsewhere, is_own_name, is_own_type};
@@ -19,13 +19,13 @@ use ob_evidence::nearest_names::{
 use ob_evidence::needed_types::{note_whole, types_there};
 use ob_evidence::text_site::{Site, is_kind, kind_or_name, rest_of};
 use ob_evidence::word_totals::{are_told, is_counted, is_in_procedure, told_words, words_there};
+use ob_explain_sentences::remark::Remark;
+use ob_explain_sentences::said::Evidence;
+use ob_explain_sentences::table_rows::{Fact, Number};
 use ob_explain_tokens::actuals::actual_count;
 use ob_explain_tokens::open::{is_in_record, open_construct};
 use ob_explain_tokens::parens::is_in_parens;
 use ob_explain_words::distance::bytes_of;
-use ob_messages::remark::Remark;
-use ob_messages::said::Evidence;
-use ob_messages::table_rows::{Fact, Number};
 use ob_scan::Kind;
 use std::alloc::{AllocError, Global};
 

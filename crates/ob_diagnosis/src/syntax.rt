@@ -4,18 +4,19 @@ ghost use Rattle.std.specs.Prelude.{IfOk};
 ghost use Rattle.ob_diagnosis.specs.Remarks.{Tells};
 ghost use Rattle.ob_explain_names.specs.Expected.{AreExpected};
 ghost use Rattle.ob_evidence.specs.Sites.{scene_of};
-ghost use Rattle.ob_messages.specs.Remarks.{remark_of};
+ghost use Rattle.ob_explain_sentences.specs.Remarks.{remark_of};
 
 use crate::told_by_tables::{Seen, nothing, of_facts, told};
 use crate::unexpected::seen_there;
 use ob_evidence::constructs::{inner_of, open_around, opening_of};
-use ob_evidence::facts::facts_of;
+use ob_evidence::facts::{facts_of, note};
+use ob_evidence::lone_names::lone_end;
 use ob_evidence::nearest_names::end_name;
 use ob_evidence::text_site::{Site, is_kind, is_token, kind_or_name, line_of};
 use ob_explain_names::expected::expected_kinds;
-use ob_messages::remark::Remark;
-use ob_messages::said::Evidence;
-use ob_messages::table_rows::{Fact, Number};
+use ob_explain_sentences::remark::Remark;
+use ob_explain_sentences::said::Evidence;
+use ob_explain_sentences::table_rows::{Fact, Number};
 use ob_scan::{Kind, Token};
 use std::alloc::{AllocError, Global};
 
@@ -34,6 +35,9 @@ fn expected_remark(alloc: Global, site: &Site<'_, '_>, could: &[Kind]) -> Result
 {
     let mut facts = Vec::new(alloc);
     let found = seen_there(&mut facts, alloc, site, could)?;
+    let opening = opening_of(found.shown);
+    let lone = lone_end(site, opening);
+    note(&mut facts, is_token(lone), Fact::Lone)?;
     let last = site.last();
     let before = site.word_of(last);
     let seen = Seen {
@@ -42,7 +46,8 @@ fn expected_remark(alloc: Global, site: &Site<'_, '_>, could: &[Kind]) -> Result
         word_before: name_of(site, last),
         called: site.word_of(found.called),
     };
-    let opening = opening_of(found.shown);
+    let lone_name = site.word_of(lone);
+    let lone_line = line_of(site.text, lone);
     let evidence = Evidence {
         name: before,
         could,
@@ -50,6 +55,8 @@ fn expected_remark(alloc: Global, site: &Site<'_, '_>, could: &[Kind]) -> Result
         opening: kind_or_name(opening),
         line: line_of(site.text, opening),
         other_line: line_of(site.text, inner_of(found.shown)),
+        lone: lone_name,
+        lone_line,
         ..nothing()
     };
     told(alloc, site, Number::P1, &seen, &evidence)
@@ -70,18 +77,24 @@ pub(crate) fn name_remark(alloc: Global, site: &Site<'_, '_>) -> Result<Remark, 
 {
     let name = end_name(site);
     let opening = open_around(site);
+    let lone = lone_end(site, opening);
     let facts = facts_of(
         alloc,
         &[
             (is_token(name), Fact::Named),
             (is_token(opening), Fact::StillOpen),
             (is_kind(opening, Kind::Repeat), Fact::OpenRepeat),
+            (is_token(lone), Fact::Lone),
         ],
     )?;
+    let lone_name = site.word_of(lone);
+    let lone_line = line_of(site.text, lone);
     let evidence = Evidence {
         name: site.word_of(name),
         opening: kind_or_name(opening),
         line: line_of(site.text, opening),
+        lone: lone_name,
+        lone_line,
         ..nothing()
     };
     told(alloc, site, Number::P3, &of_facts(&facts), &evidence)

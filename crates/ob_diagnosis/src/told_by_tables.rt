@@ -4,21 +4,21 @@ ghost use Rattle.std.specs.Prelude.{◌≡◌, IfOk};
 ghost use Rattle.ob_diagnosis.specs.Remarks.{IsUndeclared, Sees, Tells, shown_at};
 ghost use Rattle.ob_evidence.specs.Evidence.{AsksNothing, IsTrueOf};
 ghost use Rattle.ob_evidence.specs.Sites.{scene_of};
-ghost use Rattle.ob_messages.specs.Remarks.{remark_of};
-ghost use Rattle.ob_messages.specs.Said.{evidence_of};
+ghost use Rattle.ob_explain_sentences.specs.Remarks.{remark_of};
+ghost use Rattle.ob_explain_sentences.specs.Said.{evidence_of};
 
 use ob_evidence::facts::facts_of;
 use ob_evidence::nearest_names::leads_to_statement;
 use ob_evidence::text_site::{Site, kind_of};
 use ob_explain_names::lookup::name_at;
+use ob_explain_sentences::matcher::View;
+use ob_explain_sentences::place::{halves, shown_place};
+use ob_explain_sentences::remark::Remark;
+use ob_explain_sentences::said::{Evidence, hint, sentence};
+use ob_explain_sentences::table_rows::{Fact, Number, Type};
 use ob_explain_tokens::around::{tokens_before, tokens_of};
 use ob_explain_tokens::open::open_construct;
 use ob_explain_words::declaring::declares;
-use ob_messages::matcher::View;
-use ob_messages::place::{halves, shown_place};
-use ob_messages::remark::Remark;
-use ob_messages::said::{Evidence, hint, sentence};
-use ob_messages::table_rows::{Fact, Number, Type};
 use ob_scan::Kind;
 use std::alloc::{AllocError, Global};
 
@@ -122,6 +122,8 @@ pub(crate) fn nothing() -> Evidence<'static> {
         keyword: Kind::Ident,
         line: 0,
         other_line: 0,
+        lone: b"",
+        lone_line: 0,
         count: 0,
         most: 0,
         wanted: Type::Unknown,

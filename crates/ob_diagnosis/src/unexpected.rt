@@ -7,6 +7,7 @@ ghost use Rattle.ob_evidence.specs.Sites.{scene_of};
 
 use crate::foreign::{is_foreign, is_type_name};
 use crate::further::{begins_block, declares_type, has_ended, is_closed_behind};
+use crate::habits::{has_small_before_colon, is_behind_part_of_procedure, is_unfinished};
 use crate::keywords::{is_keyword, keyword_before, keyword_first, keyword_there};
 use crate::missing::missing_there;
 use crate::procedure_names::{
@@ -15,11 +16,11 @@ use crate::procedure_names::{
 use ob_evidence::constructs::{Shown, shown_there};
 use ob_evidence::facts::note;
 use ob_evidence::text_site::{Site, is_kind};
-use ob_explain_tokens::open::open_construct;
+use ob_explain_sentences::place::halves;
+use ob_explain_sentences::table_rows::Fact;
+use ob_explain_tokens::open::{is_in_record, open_construct};
 use ob_explain_tokens::parens::is_in_parens;
 use ob_explain_words::declaring::declares;
-use ob_messages::place::halves;
-use ob_messages::table_rows::Fact;
 use ob_scan::{Kind, Token};
 use std::alloc::{AllocError, Global};
 
@@ -127,6 +128,8 @@ fn note_tokens(
     note(facts, is_in_parens(site.before), Fact::InParens)?;
     note(facts, is_closed_behind(site), Fact::ClosedBehind)?;
     note(facts, begins_block(site), Fact::Block)?;
+    note(facts, is_in_record(site.before), Fact::InRecord)?;
+    note(facts, is_unfinished(site), Fact::Unfinished)?;
     note(
         facts,
         is_kind(open_construct(site.before), Kind::Module),
@@ -155,6 +158,12 @@ fn note_words(facts: &mut Vec<Fact>, site: &Site<'_, '_>) -> Result<(), AllocErr
     note(facts, begins_with_bracket(site), Fact::CallBracket)?;
     note(
         facts,
+        is_behind_part_of_procedure(site),
+        Fact::PartOfProcedure,
+    )?;
+    note(facts, has_small_before_colon(site), Fact::SmallBeforeColon)?;
+    note(
+        facts,
         !is_procedure(site, site.tokens, word) && !is_assigned(site),
         Fact::Actual,
     )?;
@@ -168,7 +177,7 @@ fn note_words(facts: &mut Vec<Fact>, site: &Site<'_, '_>) -> Result<(), AllocErr
 }
 
 /// Whether a word is the name of a type, of this text or of a language.
-fn is_type(site: &Site<'_, '_>, word: &[u8]) -> bool {
+pub(crate) fn is_type(site: &Site<'_, '_>, word: &[u8]) -> bool {
     is_type_name(word) || declares_type(site, word)
 }
 

@@ -3,7 +3,7 @@ use Rattle.std.proofs.Common.{◌≡◌, ◌+◌, ◌<◌, ◌++◌, ◌∙◌, 
 use Rattle.std.specs.Prelude.{filter, map}
 use Rattle.std.proofs.lemmas.List.{append-nil, map-append, take_more}
 use Rattle.std.proofs.lemmas.List.Elements.{filter-append}
-use Rattle.ob_messages.specs.declared.table_rows.Fact.{Fact}
+use Rattle.ob_explain_sentences.specs.declared.table_rows.Fact.{Fact}
 use Rattle.ob_evidence.specs.Facts.{facts_in, with_fact}
 
 behind : (facts : List Fact) (is : Bool) (fact : Fact) → facts ++ facts_in ((is, fact) ∷ []) ≡ with_fact facts is fact

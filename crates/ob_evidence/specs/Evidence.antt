@@ -8,15 +8,16 @@ use Rattle.ob_explain_names.specs.Declarations.{is_there}
 use Rattle.ob_explain_tokens.specs.Actuals.{actual_count}
 use Rattle.ob_explain_tokens.specs.Open.{IsInRecord, IsOpenConstruct}
 use Rattle.ob_explain_tokens.specs.Parens.{is_in_parens}
-use Rattle.ob_messages.specs.Said.{Evidence}
-use Rattle.ob_messages.specs.declared.table_rows.Fact.{Fact}
-use Rattle.ob_messages.specs.declared.table_rows.Fact.TheVariants as Facts
-use Rattle.ob_messages.specs.declared.table_rows.Number.{Number}
-use Rattle.ob_messages.specs.declared.table_rows.Number.TheVariants as Numbers
+use Rattle.ob_explain_sentences.specs.Said.{Evidence}
+use Rattle.ob_explain_sentences.specs.declared.table_rows.Fact.{Fact}
+use Rattle.ob_explain_sentences.specs.declared.table_rows.Fact.TheVariants as Facts
+use Rattle.ob_explain_sentences.specs.declared.table_rows.Number.{Number}
+use Rattle.ob_explain_sentences.specs.declared.table_rows.Number.TheVariants as Numbers
 use Rattle.ob_evidence.specs.Constructs.{AreShown, IsOpen, inner_of, opening_of}
 use Rattle.ob_explain_names.specs.Expected.{AreExpected}
 use Rattle.ob_evidence.specs.Facts.{facts_in}
 use Rattle.ob_evidence.specs.Keywords.{IsAsked}
+use Rattle.ob_evidence.specs.Lone.{AreLone}
 use Rattle.ob_evidence.specs.Names.{declared, declared_line, end_name, is_near, near_name, parameters, sort_facts, sort_there}
 use Rattle.ob_evidence.specs.Numbers.{first_operand, is_known, length_there, second_operand, written}
 use Rattle.ob_evidence.specs.Sites.{Scene, here, is_kind, is_token, kind_or_name, last, line_of, rest_of, word_of}
@@ -26,7 +27,8 @@ use Rattle.ob_evidence.specs.declared.constructs.Shown.{Shown}
 
 -- P1: what could stand there are the kinds of token with which the text before it goes on; the name is the word just before it; the
 -- keyword and the lines are those of a construct that is open there or that the END before it closes, and of an IF in it. The keyword that
--- a hint asks about is one that a name there is meant to be. Of the facts, by which a hint is chosen, nothing is promised.
+-- a hint asks about is one that a name there is meant to be. The lone name stands before the place as a whole statement. Of the facts, by
+-- which a hint is chosen, nothing is promised.
 pub record IsUnexpected (s : Scene) (e : Evidence) : Type 0 where
   pub shown : Option Shown
   pub are_shown : AreShown s shown
@@ -35,17 +37,27 @@ pub record IsUnexpected (s : Scene) (e : Evidence) : Type 0 where
   pub keyword : e.opening ≡ kind_or_name (opening_of shown)
   pub line : e.line ≡ line_of s.text (opening_of shown)
   pub other_line : e.other_line ≡ line_of s.text (inner_of shown)
+  pub lone : Option Token
+  pub are_lone : AreLone s lone
+  pub lone_name : e.lone ≡ word_of s.text lone
+  pub lone_line : e.lone_line ≡ line_of s.text lone
   pub asked : (e.keyword ≡ Kinds.Ident) ⊎ IsAsked s e.keyword
 
--- P3: the name is that of what the END before it closes; the construct that is still open is the one that this END closes.
+-- P3: the name is that of what the END before it closes; the construct that is still open is the one that this END closes. The lone name
+-- stands before the place as a whole statement.
 pub record IsOtherName (s : Scene) (facts : List Fact) (e : Evidence) : Type 0 where
   pub opening : Option Token
   pub name : e.name ≡ word_of s.text (end_name s)
   pub is_open : IsOpen (rest_of s.before) opening None
   pub keyword : e.opening ≡ kind_or_name opening
   pub line : e.line ≡ line_of s.text opening
+  pub lone : Option Token
+  pub are_lone : AreLone s lone
+  pub lone_name : e.lone ≡ word_of s.text lone
+  pub lone_line : e.lone_line ≡ line_of s.text lone
   pub noted : facts ≡ facts_in (
-      (is_token (end_name s), Facts.Named) ∷ (is_token opening, Facts.StillOpen) ∷ (is_kind opening Kinds.Repeat, Facts.OpenRepeat) ∷ [])
+      (is_token (end_name s), Facts.Named) ∷ (is_token opening, Facts.StillOpen) ∷ (is_kind opening Kinds.Repeat, Facts.OpenRepeat)
+      ∷ (is_token lone, Facts.Lone) ∷ [])
 
 -- C1: the name is the nearest one. The other facts are hints on the word, of which nothing is promised.
 pub record IsUnknownName (s : Scene) (facts : List Fact) (e : Evidence) : Type 0 where

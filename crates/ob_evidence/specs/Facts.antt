@@ -1,6 +1,6 @@
 -- Facts that are noted of a place.
 use Rattle.std.specs.Prelude.{◌++◌, Bool, List, [], ◌∷◌, filter, map, if◌then◌else◌}
-use Rattle.ob_messages.specs.declared.table_rows.Fact.{Fact}
+use Rattle.ob_explain_sentences.specs.declared.table_rows.Fact.{Fact}
 
 -- of some facts those that hold, in their order
 abbrev pub facts_in : List (Bool × Fact) → List Fact

@@ -2,6 +2,7 @@ pub mod Facts
 pub mod Sites
 pub mod Constructs
 pub mod Keywords
+pub mod Lone
 pub mod Names
 pub mod Numbers
 pub mod Words

@@ -13,10 +13,10 @@ use Rattle.ob_explain_words.specs.declared.need.Need.TheVariants as Needs
 use Rattle.ob_explain_words.specs.declared.distance.Candidate.{Candidate}
 use Rattle.ob_explain_names.specs.Declarations.{declared_as}
 use Rattle.ob_explain_parts.specs.FieldNames.{fields_at}
-use Rattle.ob_explain_tokens.specs.Ends.{name_of_end}
-use Rattle.ob_messages.specs.Places.{place_in}
-use Rattle.ob_messages.specs.declared.table_rows.Fact.{Fact}
-use Rattle.ob_messages.specs.declared.table_rows.Fact.TheVariants as Facts
+use Rattle.ob_explain_tokens.specs.ClosedConstructs.{name_of_end}
+use Rattle.ob_explain_sentences.specs.Places.{place_in}
+use Rattle.ob_explain_sentences.specs.declared.table_rows.Fact.{Fact}
+use Rattle.ob_explain_sentences.specs.declared.table_rows.Fact.TheVariants as Facts
 use Rattle.ob_evidence.specs.Sites.{Scene, is_kind, kind_of, last, next, word}
 
 abbrev pub leads_to_statement : Kind → Bool

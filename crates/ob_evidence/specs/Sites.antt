@@ -11,7 +11,7 @@ use Rattle.ob_explain_names.specs.declared.known.Known.{Known}
 use Rattle.ob_explain_names.specs.Declarations.{first_of}
 use Rattle.ob_explain_tokens.specs.Around.{AreTokens}
 use Rattle.ob_explain_tokens.specs.Around as Tokens
-use Rattle.ob_messages.specs.Places.{place_in}
+use Rattle.ob_explain_sentences.specs.Places.{place_in}
 use Rattle.ob_evidence.specs.declared.text_site.Site as Rust
 use Rattle.ob_evidence.specs.declared.text_site.Around.{Around}
 

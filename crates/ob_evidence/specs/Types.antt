@@ -9,10 +9,10 @@ use Rattle.ob_explain_parts.specs.Parameters.{parameter_form}
 use Rattle.ob_explain_parts.specs.declared.operand_types.Form.{Form}
 use Rattle.ob_explain_parts.specs.declared.operand_types.Form.TheVariants as Forms
 use Rattle.ob_explain_tokens.specs.Around as Tokens
-use Rattle.ob_messages.specs.declared.table_rows.Fact.{Fact}
-use Rattle.ob_messages.specs.declared.table_rows.Fact.TheVariants as Facts
-use Rattle.ob_messages.specs.declared.table_rows.Type.{«Type»}
-use Rattle.ob_messages.specs.declared.table_rows.Type.TheVariants as Shown
+use Rattle.ob_explain_sentences.specs.declared.table_rows.Fact.{Fact}
+use Rattle.ob_explain_sentences.specs.declared.table_rows.Fact.TheVariants as Facts
+use Rattle.ob_explain_sentences.specs.declared.table_rows.Type.{«Type»}
+use Rattle.ob_explain_sentences.specs.declared.table_rows.Type.TheVariants as Shown
 use Rattle.ob_evidence.specs.Sites.{Scene, here, last}
 use Rattle.ob_evidence.specs.declared.needed_types.Operator.{Operator}
 use Rattle.ob_evidence.specs.declared.needed_types.Operator.TheVariants as Operators

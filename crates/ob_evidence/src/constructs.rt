@@ -6,9 +6,9 @@ ghost use Rattle.ob_evidence.specs.Constructs.{AreOpen, AreShown, IsInner, IsOpe
 ghost use Rattle.ob_evidence.specs.Sites.{rest_of, scene_of};
 
 use crate::text_site::{Site, is_kind, kind_of, rest_of};
+use ob_explain_sentences::table_rows::Fact;
 use ob_explain_tokens::actuals::ends_call;
 use ob_explain_tokens::open::{else_if, is_unit, open_construct};
-use ob_messages::table_rows::Fact;
 use ob_scan::{Kind, Token};
 
 /// What constructs show at a place: a fact, the token that opens the construct, and an IF behind an ELSE in it.

@@ -3,7 +3,7 @@
 ghost use Rattle.std.specs.Prelude.{◌≡◌, IfOk, OnOk};
 ghost use Rattle.ob_evidence.specs.Facts.{facts_in, with_fact};
 
-use ob_messages::table_rows::Fact;
+use ob_explain_sentences::table_rows::Fact;
 use std::alloc::{AllocError, Global};
 
 /// Of some facts those that hold.

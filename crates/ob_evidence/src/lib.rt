@@ -6,6 +6,7 @@
 pub mod constant_numbers;
 pub mod constructs;
 pub mod facts;
+pub mod lone_names;
 pub mod nearest_names;
 pub mod needed_types;
 pub mod small_keywords;

@@ -11,12 +11,12 @@ use ob_explain_names::declarations::declared_as;
 use ob_explain_names::known::{Known, Sort};
 use ob_explain_names::lookup::sort_of;
 use ob_explain_parts::field_names::fields_at;
-use ob_explain_tokens::end_names::name_of_end;
+use ob_explain_sentences::place::place_in;
+use ob_explain_sentences::table_rows::Fact;
+use ob_explain_tokens::closed_constructs::name_of_end;
 use ob_explain_words::distance::{Candidate, FAR};
 use ob_explain_words::nearest::{nearest, nearest_token};
 use ob_explain_words::need::Need;
-use ob_messages::place::place_in;
-use ob_messages::table_rows::Fact;
 use ob_scan::{Kind, Token};
 use std::alloc::{AllocError, Global};
 

@@ -12,9 +12,9 @@ use ob_explain_parts::handed_parameter::parameter_form;
 use ob_explain_parts::operand_types::{
     Form, Role, form_before, form_behind, form_instead, other, role_of,
 };
+use ob_explain_sentences::table_rows::{Fact, Type};
 use ob_explain_tokens::around::tokens_behind;
 use ob_explain_tokens::operand_tokens::{ends_operand, is_relation};
-use ob_messages::table_rows::{Fact, Type};
 use ob_scan::{Kind, Token};
 use std::alloc::{AllocError, Global};
 

@@ -28,7 +28,7 @@ pub fn small_keyword(
 }
 
 /// Whether a token is a name that the text does not declare.
-fn is_new(site: &Site<'_, '_>, name: Token) -> bool
+pub(crate) fn is_new(site: &Site<'_, '_>, name: Token) -> bool
     ensures { IsTrue result ↔ IsNew (scene_of site.now) name }
 {
     is_kind(Some(name), Kind::Ident) && !declares(site.text, site.tokens, site.word_of(Some(name)))

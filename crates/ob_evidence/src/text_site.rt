@@ -8,8 +8,8 @@ use ob_explain_names::declarations::first_of;
 use ob_explain_names::known::Known;
 use ob_explain_names::lookup::name_at;
 use ob_explain_names::visible::visible_names;
+use ob_explain_sentences::place::place_in;
 use ob_explain_tokens::around::{tokens_before, tokens_behind, tokens_of};
-use ob_messages::place::place_in;
 use ob_scan::{Kind, Token};
 use std::alloc::{AllocError, Global};
 

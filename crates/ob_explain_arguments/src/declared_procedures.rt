@@ -4,8 +4,8 @@ ghost use Rattle.std.specs.Prelude.{◌≡◌, false, IfOk};
 ghost use Rattle.ob_explain_arguments.specs.DeclaredNames.{IsDeclared, declares, is_its_name, is_procedure};
 
 use ob_explain_names::declarations::token_bytes;
+use ob_explain_sentences::first_word::is_same;
 use ob_explain_tokens::around::tokens_of;
-use ob_messages::first_word::is_same;
 use ob_scan::{Kind, Token};
 use std::alloc::{AllocError, Global};
 

@@ -10,7 +10,7 @@ use Rattle.ob_grammar.specs.Grammar.{Lexemes, Derives, BeginsModule}
 use Rattle.ob_scan.specs.declared.token.Token.{Token}
 use Rattle.ob_scan.specs.Lexemes.{Lexeme, lexeme, place_of}
 use Rattle.ob_scan.specs.Tokens.{spelling}
-use Rattle.ob_grammar.specs.Conditions.{Breach, KeepsConditions, breaches}
+use Rattle.ob_grammar.specs.EndNamesAndNesting.{Breach, KeepsConditions, breaches}
 use Rattle.ob_parser.specs.ParseFaults.{BeginsGoodModule, BreaksCondition, HasPlace, RefusesEnd, RefusesToken, lexemes_of}
 use Rattle.ob_explain_names.specs.Expected.{GoesOn, IsLastAt}
 use Rattle.ob_explain_names.proofs.Places.{one_place, place_in_text}

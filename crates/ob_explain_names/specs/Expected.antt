@@ -6,7 +6,7 @@ use Rattle.ob_scan.specs.Limits.{longest_text}
 use Rattle.ob_scan.specs.Tokens.{HasTokens, TokenizedText}
 use Rattle.ob_grammar.specs.Grammar.{BeginsModule}
 use Rattle.ob_parser.specs.ParseFaults.{BeginsGoodModule, HasPlace, lexemes_of}
-use Rattle.ob_messages.specs.Kinds.{kinds, sample}
+use Rattle.ob_explain_sentences.specs.Kinds.{kinds, sample}
 
 -- The tokens of a text begin a module, by the productions alone. Those before the last one begin one that keeps the conditions too:
 -- so it is for the last one alone that a condition may break, as where a name stands behind END that is not the module's.

@@ -1,7 +1,7 @@
 -- What words are declared as.
 use Rattle.std.specs.Prelude.{ℕ, ◌||◌, List, drop, codes, bytes_eq, Option, Some, None, if◌then◌else◌}
 use Rattle.std.specs.List.{fold}
-use Rattle.ob_messages.specs.Words.{word_at}
+use Rattle.ob_explain_sentences.specs.Words.{word_at}
 use Rattle.ob_explain_names.specs.declared.known.Known.{Known}
 use Rattle.ob_explain_names.specs.declared.known.Sort.{Sort}
 use Rattle.ob_explain_names.specs.declared.known.Sort.TheVariants.{Constant, TypeName}

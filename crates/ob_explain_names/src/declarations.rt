@@ -6,9 +6,9 @@ ghost use Rattle.ob_explain_names.specs.Declarations.{type_token};
 
 use crate::known::Known;
 use crate::lookup::name_at;
+use ob_explain_sentences::first_word::is_same;
 use ob_explain_tokens::around::tokens_behind;
 use ob_explain_tokens::operand_tokens::is_colon;
-use ob_messages::first_word::is_same;
 use ob_scan::Token;
 use std::alloc::{AllocError, Global};
 

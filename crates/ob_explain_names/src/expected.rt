@@ -4,7 +4,7 @@ ghost use Rattle.std.specs.Prelude.{◌≡◌, ◌↔◌, IfOk, IsTrue};
 ghost use Rattle.ob_scan.specs.Tokens.{HasTokens};
 ghost use Rattle.ob_explain_names.specs.Expected.{AreExpected, CanGoOn, GoesOn, IsExpected, IsLastAt, tried};
 
-use ob_messages::kinds::{KINDS, sample};
+use ob_explain_sentences::kinds::{KINDS, sample};
 use ob_parser::{ParseFault, parse};
 use ob_scan::{Kind, ScanFault, Tokens, scan};
 use std::alloc::{AllocError, Global};

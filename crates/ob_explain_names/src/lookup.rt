@@ -4,7 +4,7 @@ ghost use Rattle.std.specs.Prelude.{◌≡◌};
 ghost use Rattle.ob_explain_names.specs.Lookup.{name_at, own_sort, sort_behind, sort_of};
 
 use crate::known::{Known, Sort};
-use ob_messages::first_word::{is_same, word_at};
+use ob_explain_sentences::first_word::{is_same, word_at};
 
 /// What a word is declared as where these names of a text are visible.
 #[tactic(auto, unfolding(crate::specs::Lookup::sort_of))]

@@ -9,9 +9,9 @@ use crate::fields::fields_behind;
 use ob_explain_names::declarations::{behind_token, is_named, type_token};
 use ob_explain_names::known::{Known, Sort};
 use ob_explain_names::lookup::name_at;
+use ob_explain_sentences::first_word::is_same;
 use ob_explain_tokens::around::tokens_behind;
 use ob_explain_tokens::operand_tokens::{is_array, is_of, is_record};
-use ob_messages::first_word::is_same;
 use ob_scan::Token;
 use std::alloc::{AllocError, Global};
 

@@ -16,12 +16,12 @@ use ob_explain_names::declarations::{declared_as, first_of, is_declared};
 use ob_explain_names::known::{Known, Sort};
 use ob_explain_names::lookup::name_at;
 use ob_explain_names::numerals::{Numeral, numeral_behind};
+use ob_explain_sentences::first_word::is_same;
 use ob_explain_tokens::around::tokens_behind;
 use ob_explain_tokens::operand_tokens::{
     is_array, is_comma, is_left, is_name, is_not, is_number, is_record, is_relation, is_right,
     is_semicolon, is_sign, multiplies,
 };
-use ob_messages::first_word::is_same;
 use ob_scan::{Kind, Token};
 use std::alloc::{AllocError, Global};
 

@@ -2,7 +2,7 @@
 use Rattle.std.proofs.Common.{◌≡◌, ℕ, suc, ◌+◌, ◌<◌, ◌≤◌, true, false, cond, List, Option, Some, None, length, get_or, drop, sym, ◌∙◌, ap, add-one, drop-cons, drop_of_length-le}
 use Rattle.ob_scan.specs.declared.token.Token.{Token}
 use Rattle.ob_explain_tokens.specs.Actuals.{comma, commas, ends_call}
-use Rattle.ob_explain_tokens.specs.Ends.{closed_before, name_of_end, or_here}
+use Rattle.ob_explain_tokens.specs.ClosedConstructs.{closed_before, name_of_end, or_here}
 
 -- the commas of what is left
 

@@ -1,6 +1,6 @@
 pub mod Actuals
 pub mod Around
-pub mod Ends
+pub mod ClosedConstructs
 pub mod Kinds
 pub mod Open
 pub mod Parens

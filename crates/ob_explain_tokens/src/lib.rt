@@ -6,7 +6,7 @@
 
 pub mod actuals;
 pub mod around;
-pub mod end_names;
+pub mod closed_constructs;
 pub mod open;
 pub mod operand_tokens;
 pub mod parens;

@@ -5,8 +5,8 @@ ghost use Rattle.ob_explain_words.specs.Declaring.{BeginsEquation, Declares, IsB
 ghost use Rattle.ob_scan.specs.declared.token.Kind.TheVariants as Kinds;
 
 use ob_explain_names::declarations::token_bytes;
+use ob_explain_sentences::first_word::is_same;
 use ob_explain_tokens::operand_tokens::{is_colon, is_comma, is_name};
-use ob_messages::first_word::is_same;
 use ob_scan::{Kind, Token};
 
 /// Whether a word is a name that the tokens of a text declare.

@@ -4,7 +4,7 @@ ghost use Rattle.std.specs.Prelude.{◌≡◌, find, reverse};
 ghost use Rattle.ob_explain_words.specs.Named.{is_named, named_words, own_words};
 
 use ob_explain_names::lookup::name_at;
-use ob_messages::first_word::is_same;
+use ob_explain_sentences::first_word::is_same;
 
 /// A type that is declared at a place, and its words, where they are told.
 #[derive(Clone, Copy)]

@@ -11,10 +11,10 @@ use Rattle.ob_meaning.specs.ByNameObject.{most_turns}
 use Rattle.ob_meaning.specs.ByNameStatements as Meanings
 use Rattle.ob_meaning.specs.ByPositionObject.{opening}
 use Rattle.ob_meaning.specs.ByPositionStatements.{Outcome, Done, Trap}
-use Rattle.ob_traps.proofs.PlacedCalls.{opening_placed}
-use Rattle.ob_traps.proofs.CallSites.{opening_trap}
-use Rattle.ob_traps.specs.TrapOfCall.{site_of_opening, trap_of_run}
-use Rattle.ob_traps.specs.Site.{Site}
+use Rattle.ob_trap_places.proofs.PlacedCalls.{opening_placed}
+use Rattle.ob_trap_places.proofs.CallSites.{opening_trap}
+use Rattle.ob_trap_places.specs.TrapOfCall.{site_of_opening, trap_of_run}
+use Rattle.ob_trap_places.specs.Site.{Site}
 use Rattle.ob_typing.specs.Declarations.{WellTyped}
 use Rattle.ob_typing.specs.ModuleText.{IsModule}
 use Rattle.ob_typing.specs.Program.{Program}

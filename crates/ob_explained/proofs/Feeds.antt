@@ -5,7 +5,7 @@ use Rattle.std.proofs.lemmas.List.{at_drop_more}
 use Rattle.std.proofs.lemmas.List.Splits.{length-slice_split}
 use Rattle.std.proofs.lemmas.List.Sums.{take_while-cons}
 use Rattle.ob_text_words.specs.Words.{lines}
-use Rattle.ob_messages.specs.Places.{is_line_feed, line_from}
+use Rattle.ob_explain_sentences.specs.Places.{is_line_feed, line_from}
 use Rattle.ob_explained.specs.ScriptPlaces.{behind_feeds}
 
 pub no_bytes : (n : ℕ) → behind_feeds n [] ≡ 0

@@ -2,8 +2,8 @@
 use Rattle.std.proofs.Common.{◌≡◌, ◌+◌, ◌<◌, ◌≤◌, ℕ, zero, suc, Bool, cond, true, false, List, [], ◌∷◌, length, take, slice_get, Some, refl, ap, ◌∙◌, arith}
 use Rattle.std.specs.List.{fold, onto_first}
 use Rattle.ob_text_words.specs.Words.{lines}
-use Rattle.ob_messages.specs.declared.place.Place.{Place}
-use Rattle.ob_messages.specs.Places.{behind_byte, is_line_feed}
+use Rattle.ob_explain_sentences.specs.declared.place.Place.{Place}
+use Rattle.ob_explain_sentences.specs.Places.{behind_byte, is_line_feed}
 use Rattle.ob_explained.specs.ScriptPlaces.{behind_feeds}
 use Rattle.ob_explained.proofs.Feeds.{some_line}
 

@@ -2,7 +2,7 @@
 use Rattle.std.proofs.Common.{◌⊎◌, inl, inr, ℕ, List, Option, Result, IfOk, IfSome, arith}
 use Rattle.std.proofs.lemmas.Option.{IfSome_then}
 use Rattle.std.proofs.lemmas.Result.{IfOk-weaker}
-use Rattle.ob_messages.specs.declared.remark.Remark as Declared
+use Rattle.ob_explain_sentences.specs.declared.remark.Remark as Declared
 use Rattle.ob_explained.specs.Marks.{IsMark, IsToldMark, MarksBehindProcess, MarksWord}
 use Rattle.ob_text_scripts.specs.declared.script.ScriptFault.{ScriptFault}
 use Rattle.ob_text_scripts.specs.declared.script.ScriptFault.TheVariants as Script

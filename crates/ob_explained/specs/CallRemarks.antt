@@ -7,8 +7,8 @@ use Rattle.ob_text_scripts.specs.declared.script.ScriptFault.TheVariants as Scri
 use Rattle.ob_text_words.specs.Words.{words}
 use Rattle.ob_typing.specs.ModuleText.{IsModule}
 use Rattle.ob_typing.specs.Program.{Program}
-use Rattle.ob_messages.specs.Places.{line_from}
-use Rattle.ob_messages.specs.Remarks.{Remark, at}
+use Rattle.ob_explain_sentences.specs.Places.{line_from}
+use Rattle.ob_explain_sentences.specs.Remarks.{Remark, at}
 use Rattle.ob_explain_arguments.specs.Calls.{IsToldOf, Told}
 use Rattle.ob_explained.specs.ScriptPlaces.{in_line, line_begin, told_place}
 use Rattle.ob_explained.specs.ScriptRemarks.{script_remark}

@@ -1,8 +1,8 @@
 -- What is shown of a fault that has a place in a text.
 use Rattle.std.specs.Prelude.{◌≡◌, ℕ, List, ◌++◌, Option, None, Some, option_map}
 use Rattle.ob_scan.specs.declared.fault.ScanFault.TheVariants as Scan
-use Rattle.ob_messages.specs.Explanations.{explanation}
-use Rattle.ob_messages.specs.Remarks.{Remark}
+use Rattle.ob_explain_sentences.specs.Explanations.{explanation}
+use Rattle.ob_explain_sentences.specs.Remarks.{Remark}
 use Rattle.ob_explained.specs.NumberFaults.{budget_explanation, long_code_explanation, long_text_explanation, processes_explanation}
 use Rattle.ob_explained.specs.CallRemarks.{IsScriptRemark}
 use Rattle.ob_check.specs.declared.module_text.TextFault.{TextFault}
@@ -18,16 +18,16 @@ use Rattle.ob_explained.specs.Openings.{IsOpenExplanation}
 
 -- What is shown of a remark on a fault of the text of this name: the fault at its place, as by itself, and what is told behind it where
 -- it comes of a slip. Of none nothing is shown.
-abbrev pub IsShownRemark : (name text : List ℕ) → TextFault → Option Remark → Option (List ℕ) → Type 0
-IsShownRemark name text fault None shown = shown ≡ None
-IsShownRemark name text fault (Some remark) shown =
-    (behind : List ℕ) × IsTold (own_stage name text) fault behind × (shown ≡ Some (explanation name text remark ++ behind))
+abbrev pub IsShownRemark : (name text : List ℕ) → Option Remark → Option (List ℕ) → Type 0
+IsShownRemark name text None shown = shown ≡ None
+IsShownRemark name text (Some remark) shown =
+    (behind : List ℕ) × IsTold (own_stage name text) behind × (shown ≡ Some (explanation name text remark ++ behind))
 
 -- at its place in the text of this name
 pub record IsPlacedExplanation (name text : List ℕ) (fault : TextFault) (shown : Option (List ℕ)) : Type 0 where
   pub remark : Option Remark
   pub remarked : IsTextRemark text fault remark
-  pub shows : IsShownRemark name text fault remark shown
+  pub shows : IsShownRemark name text remark shown
 
 -- of the text of this name; that it is too long is told without a place
 abbrev pub IsTextExplanation : (name text : List ℕ) → TextFault → Option (List ℕ) → Type 0

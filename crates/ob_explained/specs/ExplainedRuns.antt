@@ -1,7 +1,7 @@
 -- What is shown of a fault of a run that has a place in one of its texts.
 use Rattle.std.specs.Global.{Global}
 use Rattle.std.specs.Prelude.{◌≡◌, ℕ, List, Option, None, String, option_map, string_bytes}
-use Rattle.ob_messages.specs.Remarks.{Remark}
+use Rattle.ob_explain_sentences.specs.Remarks.{Remark}
 use Rattle.ob_explained.specs.Explained.{IsObjectExplanation}
 use Rattle.ob_explained.specs.RunRemarks.{IsAtItem, IsRunScriptRemark, IsScheduleRemark, long_item_sentence}
 use Rattle.ob_explained.specs.Sources.{Source, shown_in, source_of}

@@ -2,7 +2,7 @@
 use Rattle.std.specs.Global.{Global}
 use Rattle.std.specs.Prelude.{◌≡◌, ℕ, List, Option, String, option_map, string_bytes}
 use Rattle.ob_carry.specs.declared.carrying.CarryFault.{CarryFault}
-use Rattle.ob_messages.specs.Remarks.{Remark}
+use Rattle.ob_explain_sentences.specs.Remarks.{Remark}
 use Rattle.ob_explained.specs.Sources.{Source, shown_in, source_of}
 use Rattle.ob_explained.specs.declared.named_texts.Source as Rust
 use Rattle.ob_explained.specs.ValueMarks.{IsCarryRemark, IsValuesRemark}

@@ -1,14 +1,14 @@
 -- What is told of an opening that traps.
 use Rattle.std.specs.Prelude.{◌≡◌, ℕ, List, ◌++◌, Option, None, Some, codes, decimal, option_map}
-use Rattle.ob_messages.specs.Explanations.{explanation}
+use Rattle.ob_explain_sentences.specs.Explanations.{explanation}
 use Rattle.ob_grammar.specs.Texts.{IsTextOf}
 use Rattle.ob_grammar.specs.Tree.{Module}
 use Rattle.ob_mean.specs.declared.openings.OpenFault.{OpenFault}
 use Rattle.ob_mean.specs.declared.openings.OpenFault.TheVariants as Open
 use Rattle.ob_meaning.specs.ByNameObject.{OpeningTraps, most_turns}
-use Rattle.ob_traps.specs.Places.{place_of}
-use Rattle.ob_traps.specs.TrapOfCall.{site_of_opening}
-use Rattle.ob_traps.specs.Site.{Cause, Site}
+use Rattle.ob_trap_places.specs.Places.{place_of}
+use Rattle.ob_trap_places.specs.TrapOfCall.{site_of_opening}
+use Rattle.ob_trap_places.specs.Site.{Cause, Site}
 use Rattle.ob_typing.specs.ModuleText.{IsModule}
 use Rattle.ob_typing.specs.Program.{Program}
 use Rattle.ob_explained.specs.TrapSentences.{cause_sentence}

@@ -1,6 +1,6 @@
 -- What each fault of the scripts or the schedule of a run says to people.
 use Rattle.std.specs.Prelude.{◌≡◌, ℕ, ◌-◌, ◌==◌, ◌++◌, List, Option, None, codes, decimal, if◌then◌else◌}
-use Rattle.ob_messages.specs.Remarks.{Remark, at}
+use Rattle.ob_explain_sentences.specs.Remarks.{Remark, at}
 use Rattle.ob_explained.specs.ScriptPlaces.{first_place, in_line}
 use Rattle.ob_explained.specs.CallRemarks.{IsScriptRemark}
 use Rattle.ob_explain_arguments.specs.Items.{item_sentence}

@@ -3,7 +3,7 @@ use Rattle.std.specs.Prelude.{ℕ, zero, suc, ◌+◌, ◌-◌, ◌&&◌, not, n
 use Rattle.std.specs.Char.{is_ascii_digit}
 use Rattle.std.specs.List.{list_all, prefix_len}
 use Rattle.ob_text_words.specs.Words.{Word, is_blank}
-use Rattle.ob_messages.specs.Places.{is_line_feed, line_from}
+use Rattle.ob_explain_sentences.specs.Places.{is_line_feed, line_from}
 
 -- how many bytes a text has up to so many line feeds, with these; all bytes, where it has fewer line feeds
 abbrev pub behind_feeds : ℕ → List ℕ → ℕ

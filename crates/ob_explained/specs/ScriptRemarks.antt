@@ -2,8 +2,8 @@
 use Rattle.std.specs.Prelude.{ℕ, List, Option, None, codes, drop, if◌then◌else◌}
 use Rattle.ob_text_scripts.specs.declared.script.ScriptFault.{ScriptFault}
 use Rattle.ob_text_scripts.specs.declared.script.ScriptFault.TheVariants as Script
-use Rattle.ob_messages.specs.Places.{line_from}
-use Rattle.ob_messages.specs.Remarks.{Remark, at}
+use Rattle.ob_explain_sentences.specs.Places.{line_from}
+use Rattle.ob_explain_sentences.specs.Remarks.{Remark, at}
 use Rattle.ob_explain_arguments.specs.ScriptLines.{name_sentence, process_sentence}
 use Rattle.ob_explained.specs.ScriptPlaces.{first_place, first_word, form_place, in_line, is_process, line_begin, second_place}
 

@@ -1,7 +1,7 @@
 -- Texts with the names by which their files are shown.
 use Rattle.std.specs.Prelude.{ℕ, List, Option, option_map}
-use Rattle.ob_messages.specs.Explanations.{explanation}
-use Rattle.ob_messages.specs.Remarks.{Remark}
+use Rattle.ob_explain_sentences.specs.Explanations.{explanation}
+use Rattle.ob_explain_sentences.specs.Remarks.{Remark}
 use Rattle.ob_explained.specs.declared.named_texts.Source as Rust
 
 pub record Source : Type 0 where

@@ -5,7 +5,7 @@ use Rattle.ob_interface.specs.declared.scalar.Scalar.{Scalar}
 use Rattle.ob_interface.specs.declared.scalar.Scalar.TheVariants.{Int}
 use Rattle.ob_meaning.specs.ByNameObject.{most_turns}
 use Rattle.ob_text_words.specs.ScalarTexts.{scalar_text}
-use Rattle.ob_traps.specs.Site.{Cause, Operating, Negating, Indexing, Activating, Turning}
+use Rattle.ob_trap_places.specs.Site.{Cause, Operating, Negating, Indexing, Activating, Turning}
 use Rattle.ob_typing.specs.declared.operator.BinaryOperator.{BinaryOperator}
 use Rattle.ob_typing.specs.declared.operator.BinaryOperator.TheVariants.{Plus, Minus, Times, Div, Mod, And, Or}
 use Rattle.ob_explained.specs.declared.cause.Runner.{Runner}

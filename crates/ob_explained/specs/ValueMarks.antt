@@ -2,7 +2,7 @@
 use Rattle.std.specs.Prelude.{◌≡◌, ℕ, List, Option, None, Some, slice_get}
 use Rattle.ob_carry.specs.declared.carrying.CarryFault.{CarryFault}
 use Rattle.ob_carry.specs.declared.carrying.CarryFault.TheVariants as Carry
-use Rattle.ob_messages.specs.Remarks.{Remark}
+use Rattle.ob_explain_sentences.specs.Remarks.{Remark}
 use Rattle.ob_explained.specs.Marks.{MarksWord}
 use Rattle.ob_explained.specs.ValueLines.{value_lines}
 use Rattle.ob_text_values_reading.specs.declared.value_reading.ValuesFault.{ValuesFault}

@@ -2,8 +2,8 @@
 
 ghost use Rattle.std.specs.Prelude.{◌≡◌, ◌⊎◌, suc, IfOk, IfSome, map, option_map};
 ghost use Rattle.ob_check.specs.CheckedText.{IsNumberedText, TellsTextMemoryApart, is_text_memory};
-ghost use Rattle.ob_messages.specs.Places.{line_from};
-ghost use Rattle.ob_messages.specs.Remarks.{remark_of};
+ghost use Rattle.ob_explain_sentences.specs.Places.{line_from};
+ghost use Rattle.ob_explain_sentences.specs.Remarks.{remark_of};
 ghost use Rattle.ob_explain_arguments.specs.Calls.{told_of};
 ghost use Rattle.ob_explained.specs.Marks.{IsMark, IsToldMark, MarksBehindProcess, MarksWord};
 ghost use Rattle.ob_explained.specs.CallRemarks.{IsCallRemark, IsExportsRemark, IsScriptRemark, told_remark};
@@ -18,8 +18,8 @@ use crate::script_remark::{place_of_name, script_remark};
 use ob_check::TextFault;
 use ob_check::module_text::checked_text;
 use ob_explain_arguments::call_line::{Told, told_call};
+use ob_explain_sentences::remark::Remark;
 use ob_interface::export::Export;
-use ob_messages::remark::Remark;
 use ob_text_scripts::ScriptFault;
 use ob_text_words::words::words_of;
 use std::alloc::{AllocError, Global};

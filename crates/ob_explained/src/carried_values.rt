@@ -1,7 +1,7 @@
 //! What is shown of a fault of values that are to be carried over.
 
 ghost use Rattle.std.specs.Prelude.{IfOk, IfSome, option_map};
-ghost use Rattle.ob_messages.specs.Remarks.{remark_of};
+ghost use Rattle.ob_explain_sentences.specs.Remarks.{remark_of};
 ghost use Rattle.ob_explained.specs.Marks.{MarksWord};
 ghost use Rattle.ob_explained.specs.ExplainedValues.{ExplainsCarry, ExplainsValues};
 ghost use Rattle.ob_explained.specs.ValueMarks.{IsAtLine, IsAtValue, IsCarryRemark, IsValuesRemark};
@@ -12,7 +12,7 @@ use crate::script_place::{first_place, script_line, word_place};
 use crate::value_line::value_line;
 use ob_carry::carrying::CarryFault;
 use ob_explain_arguments::first_line::title_sentence;
-use ob_messages::remark::Remark;
+use ob_explain_sentences::remark::Remark;
 use ob_text_values_reading::ValuesFault;
 use ob_text_values_reading::comments::said_number;
 use std::alloc::{AllocError, Global};

@@ -3,13 +3,13 @@
 ghost use Rattle.std.specs.Prelude.{◌≡◌, ◌++◌, IfOk, OnOk, string_bytes};
 ghost use Rattle.ob_explained.specs.TrapSentences.{cause_sentence, index_sentence, negation_sentence, operation_sentence, turns_sentence};
 ghost use Rattle.ob_explained.specs.TrapSentences.{index_text, indices_text, operand_text, operator_text, reason_text, runner_text, turns_of};
-ghost use Rattle.ob_traps.specs.Reaching.{cause_of};
+ghost use Rattle.ob_trap_places.specs.Reaching.{cause_of};
 
 use ob_interface::scalar::Scalar;
 use ob_mean::openings::MOST_TURNS;
 use ob_text_words::numbers::push_number;
 use ob_text_words::scalar_words::push_value;
-use ob_traps::site::Cause;
+use ob_trap_places::site::Cause;
 use ob_typing::operator::BinaryOperator;
 use std::alloc::{AllocError, Global};
 

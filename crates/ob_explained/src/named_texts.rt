@@ -1,11 +1,11 @@
 //! Texts with the names of their files, and what is shown of them.
 
 ghost use Rattle.std.specs.Prelude.{◌≡◌, IfOk, option_map, string_bytes};
-ghost use Rattle.ob_messages.specs.Remarks.{remark_of};
+ghost use Rattle.ob_explain_sentences.specs.Remarks.{remark_of};
 ghost use Rattle.ob_explained.specs.Sources.{shown_in, source_of};
 
-use ob_messages::explanation::explanation;
-use ob_messages::remark::Remark;
+use ob_explain_sentences::explanation::explanation;
+use ob_explain_sentences::remark::Remark;
 use std::alloc::{AllocError, Global};
 
 /// A text, and the name by which its file is shown.

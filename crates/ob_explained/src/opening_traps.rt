@@ -5,8 +5,8 @@ ghost use Rattle.ob_check.specs.CheckedText.{IsNumberedText, TellsTextMemoryApar
 ghost use Rattle.ob_checked.specs.CheckedModule.{program_in, tree_in};
 ghost use Rattle.ob_grammar.specs.View.{module_of};
 ghost use Rattle.ob_meaning.specs.ByNameObject.{most_turns};
-ghost use Rattle.ob_traps.specs.TrapOfCall.{site_of_opening};
-ghost use Rattle.ob_traps.specs.Reaching.{cause_of, site_of};
+ghost use Rattle.ob_trap_places.specs.TrapOfCall.{site_of_opening};
+ghost use Rattle.ob_trap_places.specs.Reaching.{cause_of, site_of};
 ghost use Rattle.ob_typing.specs.ModuleText.{IsModule};
 ghost use Rattle.ob_typing.specs.Program.{Program};
 ghost use Rattle.ob_explained.specs.Openings.{IsOpenExplanation, IsTrapExplanation, opening_sentence, site_lines, trap_lines};
@@ -15,14 +15,14 @@ use crate::cause::{Runner, push_cause};
 use ob_check::TextFault;
 use ob_check::module_text::checked_text;
 use ob_checked::checked::Checked;
+use ob_explain_sentences::explanation::explanation;
+use ob_explain_sentences::remark::Remark;
 use ob_grammar::tree::ModuleTree;
 use ob_mean::openings::OpenFault;
-use ob_messages::explanation::explanation;
-use ob_messages::remark::Remark;
 use ob_text_words::numbers::push_number;
-use ob_traps::opening_site::site_of_opening;
-use ob_traps::site::{Cause, Site};
-use ob_traps::site_places::place_of;
+use ob_trap_places::opening_site::site_of_opening;
+use ob_trap_places::site::{Cause, Site};
+use ob_trap_places::site_places::place_of;
 use std::alloc::{AllocError, Global};
 
 /// What is shown of a fault of the opening of a module, whose text has this name: the line of the fault, and the operation

@@ -1,7 +1,7 @@
 //! What is wrong in the scripts or in the schedule of a run, in a sentence.
 
 ghost use Rattle.std.specs.Prelude.{◌≡◌, IfOk, IfSome, option_map, string_bytes};
-ghost use Rattle.ob_messages.specs.Remarks.{at, remark_of};
+ghost use Rattle.ob_explain_sentences.specs.Remarks.{at, remark_of};
 ghost use Rattle.ob_explained.specs.Marks.{IsToldMark, MarksWord};
 ghost use Rattle.ob_explained.specs.ScriptPlaces.{first_place, in_line};
 ghost use Rattle.ob_explained.specs.ItemMarks.{IsItemMark, MarksItem};
@@ -11,7 +11,7 @@ use crate::call_remark::calls_remark;
 use crate::item_place::{item_at, item_place};
 use crate::script_place::{first_place, script_line};
 use ob_explain_arguments::items::item_sentence;
-use ob_messages::remark::Remark;
+use ob_explain_sentences::remark::Remark;
 use ob_text_scripts::ScriptFault;
 use ob_text_words::ScheduleFault;
 use ob_text_words::numbers::push_number;

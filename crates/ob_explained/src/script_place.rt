@@ -3,12 +3,12 @@
 ghost use Rattle.std.specs.Prelude.{◌≡◌, ◌≤◌, ◌+◌, ◌-◌, ℕ, suc, List, Some, length, slice_get};
 ghost use Rattle.std.specs.List.{prefix_len};
 ghost use Rattle.ob_text_words.specs.Words.{is_blank, lines};
-ghost use Rattle.ob_messages.specs.Places.{line_from, place_in};
+ghost use Rattle.ob_explain_sentences.specs.Places.{line_from, place_in};
 ghost use Rattle.ob_explained.specs.Marks.{AreInLine, BeginsWord, HasProcess};
 ghost use Rattle.ob_explained.specs.ScriptPlaces.{behind_feeds, first_end, first_place, first_word, form_place, is_of_word, is_process, line_begin};
 ghost use Rattle.ob_explained.specs.ScriptPlaces.{second_place, word_place};
 
-use ob_messages::place::line_around;
+use ob_explain_sentences::place::line_around;
 
 /// The most digits of a process.
 const PROCESS_DIGITS: usize = 9;

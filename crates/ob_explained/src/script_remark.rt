@@ -1,8 +1,8 @@
 //! What is wrong in a line of a script, in a sentence.
 
 ghost use Rattle.std.specs.Prelude.{◌≡◌, None, Some, IfOk, IfSome, option_map};
-ghost use Rattle.ob_messages.specs.Places.{line_from};
-ghost use Rattle.ob_messages.specs.Remarks.{remark_of};
+ghost use Rattle.ob_explain_sentences.specs.Places.{line_from};
+ghost use Rattle.ob_explain_sentences.specs.Remarks.{remark_of};
 ghost use Rattle.ob_explained.specs.Marks.{IsMark, MarksForm, MarksWord};
 ghost use Rattle.ob_explained.specs.ScriptPlaces.{first_place, form_place, in_line, line_begin, second_place};
 ghost use Rattle.ob_explained.specs.ScriptRemarks.{line_sentence, script_remark};
@@ -11,7 +11,7 @@ use crate::script_place::{
     first_place, first_word, form_place, is_process, script_line, second_place,
 };
 use ob_explain_arguments::other_lines::{name_sentence, process_sentence};
-use ob_messages::remark::Remark;
+use ob_explain_sentences::remark::Remark;
 use ob_text_scripts::ScriptFault;
 use std::alloc::{AllocError, Global};
 

@@ -1,8 +1,8 @@
 //! What is shown of a fault that has a place in a text.
 
 ghost use Rattle.std.specs.Prelude.{◌≡◌, IfOk, option_map, string_bytes};
-ghost use Rattle.ob_messages.specs.Explanations.{explanation};
-ghost use Rattle.ob_messages.specs.Remarks.{remark_of};
+ghost use Rattle.ob_explain_sentences.specs.Explanations.{explanation};
+ghost use Rattle.ob_explain_sentences.specs.Remarks.{remark_of};
 ghost use Rattle.ob_explained.specs.Explained.{IsCallsExplanation, IsModuleExplanation, IsObjectExplanation, IsPlacedExplanation, IsTextExplanation};
 
 use crate::call_remark::calls_remark;
@@ -11,8 +11,8 @@ use crate::number_fault::{
 };
 use crate::opening_traps::open_explanation;
 use ob_check::TextFault;
-use ob_messages::explanation::explanation;
-use ob_messages::remark::Remark;
+use ob_explain_sentences::explanation::explanation;
+use ob_explain_sentences::remark::Remark;
 use ob_object_calls::SeqTextFault;
 use ob_object_compile::CompileFault;
 use ob_scan::ScanFault;

@@ -1,6 +1,6 @@
 -- What is shown of a fault of a module and a history: its place, and of a line whose words are the cause what is said of them.
 use Rattle.std.specs.Prelude.{◌≡◌, ◌≤◌, ◌<◌, ◌-◌, ℕ, List, ◌∷◌, Option, None, Some, MatchOption, codes, slice_get}
-use Rattle.ob_messages.specs.Remarks.{Remark}
+use Rattle.ob_explain_sentences.specs.Remarks.{Remark}
 use Rattle.ob_explained.specs.Explained.{IsTextExplanation}
 use Rattle.ob_explained_records.specs.HistoryForms.{IsHistoryFormRemark, Marks}
 use Rattle.ob_explained.specs.Sources.{Source, shown_in}

@@ -1,6 +1,6 @@
 -- What is shown of a fault of a module and a record that has a place in one of them.
 use Rattle.std.specs.Prelude.{◌≡◌, ℕ, List, Option, None}
-use Rattle.ob_messages.specs.Remarks.{Remark}
+use Rattle.ob_explain_sentences.specs.Remarks.{Remark}
 use Rattle.ob_explained.specs.Explained.{IsTextExplanation}
 use Rattle.ob_explained_records.specs.FormRemarks.{IsFormRemark}
 use Rattle.ob_explained_records.specs.OrderRemarks.{IsOrderRemark}

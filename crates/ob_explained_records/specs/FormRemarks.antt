@@ -1,9 +1,9 @@
 -- What a line of a record that is missing, or can't stand there, says to people.
 use Rattle.std.specs.Prelude.{◌≡◌, ℕ, ◌-◌, ◌++◌, ◌==◌, ◌&&◌, ◌||◌, nat_le, nat_lt, Bool, true, false, List, Option, None, Some, codes, drop, if◌then◌else◌, length, map, slice_get}
-use Rattle.ob_messages.specs.Places.{line_from}
-use Rattle.ob_messages.specs.Remarks.{Remark, at}
+use Rattle.ob_explain_sentences.specs.Places.{line_from}
+use Rattle.ob_explain_sentences.specs.Remarks.{Remark, at}
 use Rattle.ob_explain_arguments.specs.Records.{title_sentence}
-use Rattle.ob_messages.specs.Words.{begins_with}
+use Rattle.ob_explain_sentences.specs.Words.{begins_with}
 use Rattle.ob_checked.specs.Exports.{signatures}
 use Rattle.ob_explained.specs.ScriptPlaces.{first_place, in_line, line_begin, word_place}
 use Rattle.ob_explained_lines.specs.Causes.{Cause, IsLineCause, Object, cause_at, has_budget, has_openings, head_words, words_before}

@@ -7,7 +7,7 @@ use Rattle.ob_explained_lines.specs.Causes.{Cause, IsHistoryLineCause, words_bef
 use Rattle.ob_explained_lines.specs.Lines.{IsLine}
 use Rattle.ob_explained_lines.specs.declared.record_line.Wanted.TheVariants as Wants
 use Rattle.ob_explained_records.specs.FormRemarks.{is_behind}
-use Rattle.ob_messages.specs.Remarks.{Remark, at}
+use Rattle.ob_explain_sentences.specs.Remarks.{Remark, at}
 use Rattle.ob_typing.specs.ModuleText.{IsModule}
 use Rattle.ob_typing.specs.Program.{Program}
 

@@ -1,6 +1,6 @@
 -- What each fault of a record's order says to people.
 use Rattle.std.specs.Prelude.{◌≡◌, ℕ, Bool, true, false, List, [], ◌++◌, Option, None, Some, MatchOption, codes, decimal, option_map}
-use Rattle.ob_messages.specs.Remarks.{Remark}
+use Rattle.ob_explain_sentences.specs.Remarks.{Remark}
 use Rattle.ob_explained_lines.specs.Lines.{IsLine}
 use Rattle.ob_explained_records.specs.MadeTexts.{other_reply_text}
 use Rattle.ob_explained_records.specs.OrderPlaces.{IsEndPlace, IsOrderPlace}

@@ -1,14 +1,14 @@
 //! The remark on a call that can't have ended as it did.
 
 ghost use Rattle.std.specs.Prelude.{◌≡◌, IfOk, option_map};
-ghost use Rattle.ob_messages.specs.Remarks.{remark_of};
+ghost use Rattle.ob_explain_sentences.specs.Remarks.{remark_of};
 ghost use Rattle.ob_explained.specs.Marks.{MarksWord};
 ghost use Rattle.ob_explained_records.specs.ExplainedHistories.{IsEndRemark};
 
 use crate::end_line::end_line;
 use crate::end_sentence::end_sentence;
+use ob_explain_sentences::remark::Remark;
 use ob_explained::script_place::{script_line, second_place};
-use ob_messages::remark::Remark;
 use ob_object_search::Search;
 use std::alloc::{AllocError, Global};
 use wf_history::CallId;

@@ -1,17 +1,17 @@
 //! The remark on a line of a history that can't stand there.
 
 ghost use Rattle.std.specs.Prelude.{IfOk, None, option_map};
-ghost use Rattle.ob_messages.specs.Remarks.{remark_of};
+ghost use Rattle.ob_explain_sentences.specs.Remarks.{remark_of};
 ghost use Rattle.ob_explained_lines.specs.Causes.{cause_of};
 ghost use Rattle.ob_explained_records.specs.HistoryForms.{IsEventsCause, IsHistoryCause, IsHistoryFormRemark, IsHistoryTold};
 
 use crate::history_sentences::first_sentence;
 use crate::record_remark::{is_behind, no_cause, place_of_spot};
 use ob_check::module_text::checked_text;
+use ob_explain_sentences::remark::Remark;
 use ob_explained::script_place::{first_place, script_line};
 use ob_explained_lines::line_cause::{Cause, Object, history_line_cause};
 use ob_explained_lines::record_line::{Wanted, first_line};
-use ob_messages::remark::Remark;
 use std::alloc::{AllocError, Global};
 
 /// The remark on the line of a number, from 1, which is missing or can't stand there, of a history of a module's object.

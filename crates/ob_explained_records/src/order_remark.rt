@@ -1,14 +1,14 @@
 //! What is wrong with the order of a record, in a sentence.
 
 ghost use Rattle.std.specs.Prelude.{◌≡◌, ◌++◌, IfOk, OnOk, option_map, string_bytes};
-ghost use Rattle.ob_messages.specs.Remarks.{remark_of};
+ghost use Rattle.ob_explain_sentences.specs.Remarks.{remark_of};
 ghost use Rattle.ob_explained_records.specs.OrderRemarks.{IsCallSentence, IsEndLine, IsEndRemark, IsOrderLineRemark, IsOrderRemark, IsOtherReplyRemark};
 ghost use Rattle.ob_explained_records.specs.OrderRemarks.{IsTooEarlyRemark, IsUnknownRemark, early_text, line_text, told_at};
 
 use crate::order_place::{place_in_order, place_of_end};
 use crate::reply_sentence::other_reply_text;
+use ob_explain_sentences::remark::Remark;
 use ob_explained_lines::record_line::{Wanted, first_line};
-use ob_messages::remark::Remark;
 use ob_object_calls::{call_made, call_overtaken};
 use ob_object_run::OrderFault;
 use ob_text_record::push_id;

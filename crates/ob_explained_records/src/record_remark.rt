@@ -2,7 +2,7 @@
 
 ghost use Rattle.std.specs.Prelude.{◌≡◌, ℕ, suc, IfOk, IfSome, None, map, option_map, string_bytes};
 ghost use Rattle.ob_check.specs.CheckedText.{IsNumberedText, TellsTextMemoryApart, is_text_memory};
-ghost use Rattle.ob_messages.specs.Remarks.{remark_of};
+ghost use Rattle.ob_explain_sentences.specs.Remarks.{remark_of};
 ghost use Rattle.ob_explained.specs.Marks.{MarksWord};
 ghost use Rattle.ob_explained.specs.ScriptPlaces.{in_line, word_place};
 ghost use Rattle.ob_explained_lines.specs.Causes.{IsLineCause, cause_of, has_openings, words_before};
@@ -16,12 +16,12 @@ use ob_check::TextFault;
 use ob_check::module_text::checked_text;
 use ob_checked::program::Variable;
 use ob_explain_arguments::first_line::title_sentence;
+use ob_explain_sentences::first_word::begins_with;
+use ob_explain_sentences::remark::Remark;
 use ob_explained::script_place::{behind_place, first_place, script_line, word_place};
 use ob_explained_lines::line_cause::{Cause, Object, Spot, has_budget, has_openings, line_cause};
 use ob_explained_lines::record_line::{Wanted, first_line};
 use ob_interface::export::Export;
-use ob_messages::first_word::begins_with;
-use ob_messages::remark::Remark;
 use ob_text_values_reading::comments::said_number;
 use std::alloc::{AllocError, Global};
 

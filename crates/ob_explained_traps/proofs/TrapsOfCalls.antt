@@ -19,12 +19,12 @@ use Rattle.ob_meaning.specs.ByPositionStore.{Activation}
 use Rattle.ob_text_scripts.specs.Script.{IsScript}
 use Rattle.ob_text_words.specs.ScriptCalls.{ScriptCall, object_call, script_call_of}
 use Rattle.ob_text_words.specs.declared.script_call.ScriptCall as Declared
-use Rattle.ob_traps.proofs.PlacedCalls.{call_placed}
-use Rattle.ob_traps.specs.Places.{place_of}
-use Rattle.ob_traps.proofs.Sited.{length-sites, numbers_answered}
-use Rattle.ob_traps.specs.Sequence.{sites_from}
-use Rattle.ob_traps.specs.TrapOfCall.{site_of_call, trap_of}
-use Rattle.ob_traps.specs.Site.{Site}
+use Rattle.ob_trap_places.proofs.PlacedCalls.{call_placed}
+use Rattle.ob_trap_places.specs.Places.{place_of}
+use Rattle.ob_trap_places.proofs.Sited.{length-sites, numbers_answered}
+use Rattle.ob_trap_places.specs.Sequence.{sites_from}
+use Rattle.ob_trap_places.specs.TrapOfCall.{site_of_call, trap_of}
+use Rattle.ob_trap_places.specs.Site.{Site}
 use Rattle.ob_typing.specs.Declarations.{WellTyped}
 use Rattle.ob_typing.specs.Program.{Program}
 use Rattle.ob_explained_traps.specs.CallLines.{call_lines}

@@ -18,8 +18,8 @@ use Rattle.ob_object_calls.proofs.Beginnings.{beginning_named, record_opened}
 use Rattle.ob_object_calls.proofs.Named.{replies_same}
 use Rattle.ob_object_calls.proofs.Openings.{module_resolved}
 use Rattle.ob_object_calls.proofs.VerifyFitting.{calls_fit}
-use Rattle.ob_traps.proofs.Sited.{numbers_answered}
-use Rattle.ob_traps.specs.TrapOfCall.{trap_of}
+use Rattle.ob_trap_places.proofs.Sited.{numbers_answered}
+use Rattle.ob_trap_places.specs.TrapOfCall.{trap_of}
 use Rattle.ob_typing.specs.ModuleText.{IsModule}
 use Rattle.ob_typing.specs.Program.{Program}
 

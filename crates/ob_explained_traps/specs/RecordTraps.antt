@@ -13,9 +13,9 @@ use Rattle.ob_object_calls.specs.MadeCalls.{NeverBegan}
 use Rattle.ob_object_run.specs.declared.order_checker.OrderFault.{OrderFault}
 use Rattle.ob_object_run.specs.declared.order_checker.OrderFault.TheVariants as Order
 use Rattle.ob_text_reading.specs.RecordLines.{IsRecord, Told}
-use Rattle.ob_traps.specs.Sequence.{sites_from}
-use Rattle.ob_traps.specs.Site.{Site}
-use Rattle.ob_traps.specs.TrapOfCall.{trap_of}
+use Rattle.ob_trap_places.specs.Sequence.{sites_from}
+use Rattle.ob_trap_places.specs.Site.{Site}
+use Rattle.ob_trap_places.specs.TrapOfCall.{trap_of}
 use Rattle.ob_typing.specs.ModuleText.{IsModule}
 use Rattle.ob_typing.specs.Program.{Program}
 use Rattle.ob_explained_traps.specs.NamedCalls.{OfRecord}

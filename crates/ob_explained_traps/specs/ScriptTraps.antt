@@ -11,9 +11,9 @@ use Rattle.ob_object_compile.specs.declared.object.Object.{Object}
 use Rattle.ob_text_scripts.specs.Script.{IsScript}
 use Rattle.ob_text_words.specs.ScriptCalls.{ScriptCall, object_call, script_call_of}
 use Rattle.ob_text_words.specs.declared.script_call.ScriptCall as Declared
-use Rattle.ob_traps.specs.Sequence.{sites_from}
-use Rattle.ob_traps.specs.TrapOfCall.{trap_of}
-use Rattle.ob_traps.specs.Site.{Site}
+use Rattle.ob_trap_places.specs.Sequence.{sites_from}
+use Rattle.ob_trap_places.specs.TrapOfCall.{trap_of}
+use Rattle.ob_trap_places.specs.Site.{Site}
 use Rattle.ob_explained_traps.specs.CallLines.{call_lines}
 use Rattle.ob_explained_traps.specs.NamedCalls.{Calls, OfScript}
 use Rattle.ob_explained_traps.specs.TrapLines.{or_none, traps_lines}

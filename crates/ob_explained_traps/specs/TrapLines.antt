@@ -1,13 +1,13 @@
 -- The lines that tell of the traps of calls.
 use Rattle.std.specs.Prelude.{ℕ, List, [], ◌∷◌, ◌++◌, Option, Some, None, codes, decimal, flat_map, if◌then◌else◌, nat_lt, slice_index_or}
-use Rattle.ob_messages.specs.Explanations.{explanation}
+use Rattle.ob_explain_sentences.specs.Explanations.{explanation}
 use Rattle.ob_explained.specs.Sources.{Source, source_of}
 use Rattle.ob_explained.specs.TrapSentences.{cause_sentence}
 use Rattle.ob_explained.specs.declared.cause.Runner.TheVariants as Runners
 use Rattle.ob_grammar.specs.Tree
 use Rattle.ob_grammar.specs.View.{module_of}
-use Rattle.ob_traps.specs.Places.{place_of}
-use Rattle.ob_traps.specs.Site.{Site}
+use Rattle.ob_trap_places.specs.Places.{place_of}
+use Rattle.ob_trap_places.specs.Site.{Site}
 use Rattle.ob_explained_traps.specs.NamedCalls.{Calls, calls_of, name_at}
 use Rattle.ob_explained_traps.specs.TrapPlaces.{count_at, firsts, is_first, spots_of}
 use Rattle.ob_explained_traps.specs.declared.spots.Spot.{Spot}

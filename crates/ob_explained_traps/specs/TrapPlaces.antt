@@ -3,8 +3,8 @@ use Rattle.std.specs.Prelude.{◌≡◌, ℕ, ◌==◌, ◌&&◌, not, Bool, fal
 use Rattle.std.specs.List.{list_any, range_with_len}
 use Rattle.std.specs.Option.{option_map_or}
 use Rattle.ob_grammar.specs.Tree
-use Rattle.ob_traps.specs.Places.{place_of}
-use Rattle.ob_traps.specs.Site.{Site}
+use Rattle.ob_trap_places.specs.Places.{place_of}
+use Rattle.ob_trap_places.specs.Site.{Site}
 use Rattle.ob_explained_traps.specs.declared.spots.Spot.{Spot}
 
 -- a trap of this number, at this place

@@ -10,7 +10,7 @@ ghost use Rattle.ob_object_calls.specs.Verified.{IsLegalRecord, IsVerified};
 ghost use Rattle.ob_object_calls.specs.declared.verifying.VerifyFault.TheVariants as Faults;
 ghost use Rattle.ob_object_run.specs.LegalOrder.{CallEnds};
 ghost use Rattle.ob_store.specs.View.{state_of};
-ghost use Rattle.ob_traps.specs.Sequence.{sites_from};
+ghost use Rattle.ob_trap_places.specs.Sequence.{sites_from};
 
 use crate::order_calls::order_calls;
 use crate::told_calls::Calls;
@@ -24,7 +24,7 @@ use ob_object_calls::VerifyFault;
 use ob_object_calls::beginning::beginning;
 use ob_store::state::State;
 use ob_text_reading::read_record;
-use ob_traps::sequence::sites_in_turn;
+use ob_trap_places::sequence::sites_in_turn;
 use std::alloc::Global;
 use wf_history::CallId;
 

@@ -18,7 +18,7 @@ use ob_object_calls::script_calls::{callers, object_calls};
 use ob_object_compile::{Asked, CompileFault, Object, compile_asked};
 use ob_text_scripts::read_scripts;
 use ob_text_words::script_call::ScriptCall;
-use ob_traps::sequence::sites_in_turn;
+use ob_trap_places::sequence::sites_in_turn;
 use std::alloc::Global;
 
 /// What is told of the script's calls that trap, made one at a time in line order on the object that is asked for, from the state

@@ -4,11 +4,11 @@ ghost use Rattle.std.specs.Prelude.{◌≡◌, ◌<◌, IfOk, count_by, length, 
 ghost use Rattle.std.specs.List.{list_any};
 ghost use Rattle.ob_explained_traps.specs.TrapPlaces.{count_at, is_first, spot_of, spots_of, traps_at};
 ghost use Rattle.ob_grammar.specs.View.{module_of};
-ghost use Rattle.ob_traps.specs.Reaching.{site_of};
+ghost use Rattle.ob_trap_places.specs.Reaching.{site_of};
 
 use ob_grammar::tree::ModuleTree;
-use ob_traps::site::Site;
-use ob_traps::site_places::place_of;
+use ob_trap_places::site::Site;
+use ob_trap_places::site_places::place_of;
 use std::alloc::{AllocError, Global};
 
 /// A trap's number, and the place of its operation in the text.

@@ -4,18 +4,18 @@ ghost use Rattle.std.specs.Prelude.{◌≡◌, ◌++◌, ◌<◌, IfOk, OnOk, le
 ghost use Rattle.ob_explained_traps.specs.NamedCalls.{AreSoMany, HasCall, calls_of};
 ghost use Rattle.ob_explained_traps.specs.TrapLines.{count_lines, count_text, heading, lines_if_first, setting_of, site_lines, site_place_lines, trap_text};
 ghost use Rattle.ob_explained_traps.specs.TrapLines.{or_none, traps_lines};
-ghost use Rattle.ob_traps.specs.Reaching.{site_of};
+ghost use Rattle.ob_trap_places.specs.Reaching.{site_of};
 
 use crate::spots::{Spot, count_at, is_first, spots_of};
 use crate::told_calls::{Calls, push_name};
+use ob_explain_sentences::explanation::explanation;
+use ob_explain_sentences::remark::Remark;
 use ob_explained::Source;
 use ob_explained::cause::{Runner, cause_sentence};
 use ob_grammar::tree::ModuleTree;
-use ob_messages::explanation::explanation;
-use ob_messages::remark::Remark;
 use ob_text_words::numbers::push_number;
-use ob_traps::site::Site;
-use ob_traps::site_places::place_of;
+use ob_trap_places::site::Site;
+use ob_trap_places::site_places::place_of;
 use std::alloc::{AllocError, Global};
 
 /// What traps are told of: the text of the module with its tree, the calls, and the budget of each.

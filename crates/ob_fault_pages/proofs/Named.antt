@@ -4,7 +4,7 @@ use Rattle.std.specs.List.{list_any}
 use Rattle.std.proofs.lemmas.List.Folds.{list_any-append}
 use Rattle.std.proofs.lemmas.Slice.Eq.{bytes_eq-Decides}
 use Rattle.ob_command.specs.CommandLine.{fault_names, names_fault}
-use Rattle.ob_fault_pages.specs.Pages.{Page, call_rows, either, module_page, object_rows, page_in, page_of, record_rows, rule_rows, run_rows, text_rows, texts_page, trap_rows}
+use Rattle.ob_fault_pages.specs.Pages.{Page, script_rows, either, module_page, object_rows, page_in, page_of, record_rows, rule_rows, run_rows, text_rows, texts_page, trap_rows}
 
 abbrev names_in : List Page → List (List ℕ)
 names_in rows = map (λ row. row.name) rows
@@ -13,11 +13,11 @@ abbrev module_names : List (List ℕ)
 module_names = (names_in trap_rows ++ names_in text_rows) ++ (names_in rule_rows ++ names_in object_rows)
 
 abbrev texts_names : List (List ℕ)
-texts_names = (names_in call_rows ++ names_in run_rows) ++ names_in record_rows
+texts_names = (names_in script_rows ++ names_in run_rows) ++ names_in record_rows
 
 -- the faults are listed as the tables have them
 listed : fault_names ≡ module_names ++ texts_names
-unfolding fault_names trap_rows text_rows rule_rows object_rows call_rows run_rows record_rows
+unfolding fault_names trap_rows text_rows rule_rows object_rows script_rows run_rows record_rows
 listed = refl
 
 turned : (a b : List ℕ) → bytes_eq a b ≡ bytes_eq b a
@@ -59,8 +59,8 @@ of_module word =
 
 of_texts : (word : List ℕ) → is_some (texts_page word) ≡ list_any (bytes_eq word) texts_names
 of_texts word =
-    in_both (either (page_in call_rows word) (page_in run_rows word)) (page_in record_rows word) (names_in call_rows ++ names_in run_rows) (names_in record_rows) word
-    (two_tables call_rows run_rows word) (in_table record_rows word)
+    in_both (either (page_in script_rows word) (page_in run_rows word)) (page_in record_rows word) (names_in script_rows ++ names_in run_rows) (names_in record_rows) word
+    (two_tables script_rows run_rows word) (in_table record_rows word)
 
 pub named : (word : List ℕ) → names_fault word ≡ is_some (page_of word)
 named word =

@@ -3,7 +3,7 @@ use Rattle.std.specs.Prelude.{ℕ, List, [], map, find, Option, Some, None, opti
 use Rattle.std.specs.Str.{bytes_eq}
 use denote.Bor.{Bor}
 use Rattle.ob_fault_pages.specs.declared.page.PageOf.{PageOf}
-use Rattle.ob_fault_pages.specs.declared.call_rows.TheConstants.{CALL_ROWS}
+use Rattle.ob_fault_pages.specs.declared.script_rows.TheConstants.{SCRIPT_ROWS}
 use Rattle.ob_fault_pages.specs.declared.object_rows.TheConstants.{OBJECT_ROWS}
 use Rattle.ob_fault_pages.specs.declared.record_rows.TheConstants.{RECORD_ROWS}
 use Rattle.ob_fault_pages.specs.declared.rule_rows.TheConstants.{RULE_ROWS}
@@ -36,8 +36,8 @@ rule_rows = map (λ row. page_by (λ text. text.now) row) RULE_ROWS.now
 unfoldable pub object_rows : List Page
 object_rows = map (λ row. page_by (λ text. text.now) row) OBJECT_ROWS.now
 
-unfoldable pub call_rows : List Page
-call_rows = map (λ row. page_by (λ text. text.now) row) CALL_ROWS.now
+unfoldable pub script_rows : List Page
+script_rows = map (λ row. page_by (λ text. text.now) row) SCRIPT_ROWS.now
 
 unfoldable pub run_rows : List Page
 run_rows = map (λ row. page_by (λ text. text.now) row) RUN_ROWS.now
@@ -62,7 +62,7 @@ module_page name =
 
 -- a fault of the other texts, and of what is made of them
 abbrev pub texts_page : (name : List ℕ) → Option (List ℕ)
-texts_page name = either (either (page_in call_rows name) (page_in run_rows name)) (page_in record_rows name)
+texts_page name = either (either (page_in script_rows name) (page_in run_rows name)) (page_in record_rows name)
 
 -- the page of a fault is that of the row of its name, and another word has none
 abbrev pub page_of : (name : List ℕ) → Option (List ℕ)

@@ -3,12 +3,12 @@
 //! tools/fault_pages makes the rows.
 #![tactic(auto)]
 
-pub mod call_rows;
 pub mod laws;
 pub mod object_rows;
 pub mod page;
 pub mod record_rows;
 pub mod rule_rows;
 pub mod run_rows;
+pub mod script_rows;
 pub mod text_rows;
 pub mod trap_rows;

@@ -1,14 +1,14 @@
 //! The page of a fault, by its name.
 
 ghost use Rattle.std.specs.Prelude.{◌≡◌, map, option_map};
-ghost use Rattle.ob_fault_pages.specs.Pages.{call_rows, either, object_rows, page_in, page_of, record_rows, row_of, rule_rows, run_rows, text_rows, trap_rows};
+ghost use Rattle.ob_fault_pages.specs.Pages.{script_rows, either, object_rows, page_in, page_of, record_rows, row_of, rule_rows, run_rows, text_rows, trap_rows};
 ghost use Rattle.ob_fault_pages.specs.Pages.{module_page, page_text, texts_page};
 
-use crate::call_rows::CALL_ROWS;
 use crate::object_rows::OBJECT_ROWS;
 use crate::record_rows::RECORD_ROWS;
 use crate::rule_rows::RULE_ROWS;
 use crate::run_rows::RUN_ROWS;
+use crate::script_rows::SCRIPT_ROWS;
 use crate::text_rows::TEXT_ROWS;
 use crate::trap_rows::TRAP_ROWS;
 
@@ -49,7 +49,7 @@ fn module_page(name: &str) -> Option<&'static str>
 fn texts_page(name: &str) -> Option<&'static str>
     ensures { option_map (λ text. text.now) result ≡ texts_page name.now }
 {
-    let of_run = either(page_in(call_rows(), name), page_in(run_rows(), name));
+    let of_run = either(page_in(script_rows(), name), page_in(run_rows(), name));
     either(of_run, page_in(record_rows(), name))
 }
 
@@ -104,11 +104,11 @@ fn object_rows() -> &'static [Page]
     OBJECT_ROWS
 }
 
-#[tactic(auto, unfolding(crate::specs::Pages::call_rows))]
-fn call_rows() -> &'static [Page]
-    ensures { map row_of result.now ≡ call_rows }
+#[tactic(auto, unfolding(crate::specs::Pages::script_rows))]
+fn script_rows() -> &'static [Page]
+    ensures { map row_of result.now ≡ script_rows }
 {
-    CALL_ROWS
+    SCRIPT_ROWS
 }
 
 #[tactic(auto, unfolding(crate::specs::Pages::run_rows))]

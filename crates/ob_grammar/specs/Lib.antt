@@ -2,5 +2,5 @@ pub mod Limits
 pub mod Tree
 pub mod View
 pub mod Grammar
-pub mod Conditions
+pub mod EndNamesAndNesting
 pub mod Texts

@@ -5,7 +5,7 @@ use Rattle.ob_scan.specs.Lexemes.{IsSpelled, lexemes}
 use Rattle.ob_scan.specs.Tokens.{HasTokens}
 use Rattle.ob_grammar.specs.Tree.{Module}
 use Rattle.ob_grammar.specs.Grammar.{Lexemes, Derives}
-use Rattle.ob_grammar.specs.Conditions.{KeepsConditions}
+use Rattle.ob_grammar.specs.EndNamesAndNesting.{KeepsConditions}
 
 -- tokens with spellings derive this module
 pub record HasText (m : Module) : Type 0 where

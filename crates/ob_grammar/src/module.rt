@@ -20,7 +20,7 @@ impl Model for Module {
 
     ghost coded = { Prim.hlevel (codes, declarations.the_row.coded, statements.the_row.coded) };
 
-    ghost use Rattle.ob_grammar.specs.Conditions.{KeepsConditions};
+    ghost use Rattle.ob_grammar.specs.EndNamesAndNesting.{KeepsConditions};
     ghost use Rattle.ob_grammar.specs.Texts.{HasText};
     ghost use Rattle.ob_grammar.specs.View.{module_of};
 
@@ -31,7 +31,7 @@ impl Model for Module {
 
 impl Module {
     ghost use Rattle.std.specs.Prelude.{◌≡◌};
-    ghost use Rattle.ob_grammar.specs.Conditions.{KeepsConditions};
+    ghost use Rattle.ob_grammar.specs.EndNamesAndNesting.{KeepsConditions};
     ghost use Rattle.ob_grammar.specs.Texts.{HasText};
     ghost use Rattle.ob_grammar.specs.View.{module_of};
 

@@ -25,7 +25,7 @@ use Rattle.wf_table.specs.Each.{Each}
 use Rattle.wf_table.specs.Object.{State, script_by, script_of}
 use Rattle.wf_table.specs.Runs.{submissions}
 use Rattle.wf_table.specs.Scripts.{CallsFit}
-use Rattle.wf_table.specs.Table.{Process}
+use Rattle.wf_table.specs.StepTable.{Process}
 use Rattle.wf_table.proofs.TableRuns.{run_sound}
 use Rattle.wf_outcome_laws.specs.Shown.{scripts_in}
 use Rattle.wf_outcome_laws.proofs.Merged.{one_last}

@@ -15,14 +15,14 @@ use Rattle.ob_object_compile.specs.Sound.{ObjectsAreSound}
 use Rattle.ob_object_outcomes.specs.Scripts.{calls_by, scripts_by}
 use Rattle.ob_text_words.specs.ScriptCalls.{ScriptCall}
 use Rattle.ob_typing.specs.Program.{Program}
-use Rattle.wf_table.proofs.CommitsSteps.{member}
+use Rattle.wf_table.proofs.HelpAndOrderSteps.{member}
 use Rattle.wf_outcomes.specs.Merges.{Leads, start, full}
 use Rattle.wf_play.specs.Played.{scripts_of}
 use Rattle.wf_outcome_laws.specs.Shown.{scripts_in}
 use Rattle.wf_table.specs.Object.{State}
 use Rattle.wf_table.specs.Runs.{submissions}
 use Rattle.wf_table.specs.Start.{sizes_of}
-use Rattle.wf_table.specs.Table.{Process}
+use Rattle.wf_table.specs.StepTable.{Process}
 use Rattle.wf_table.proofs.TableRuns.{run_sound}
 use Rattle.ob_laws.specs.Shown.{OutcomesAreShown}
 use Rattle.ob_laws.proofs.Scripts.{all_scripts, submitted_calls}

@@ -6,14 +6,14 @@ use Rattle.ob_interface.specs.Call.{ObjectCall}
 use Rattle.ob_object_outcomes.specs.Scripts.{calls_by, scripts_by}
 use Rattle.ob_text_words.specs.ScriptCalls.{ScriptCall, object_call}
 use Rattle.wf_table.proofs.BoundPlaces.{put_at, still_at}
-use Rattle.wf_table.proofs.CommitsSteps.{member}
+use Rattle.wf_table.proofs.HelpAndOrderSteps.{member}
 use Rattle.wf_history.proofs.Positions.{take_next}
 use Rattle.wf_play.specs.Played.{scripts_of}
 use Rattle.wf_table.specs.declared.process.Sizes.{Sizes}
 use Rattle.wf_table.specs.Meaning.{Meaning}
 use Rattle.wf_table.specs.Object.{State, submit_by, submit_of}
 use Rattle.wf_table.specs.Runs.{run, submissions}
-use Rattle.wf_table.specs.Table.{Process}
+use Rattle.wf_table.specs.StepTable.{Process}
 
 map_push : {X Y : Type 0} (f : X → Y) (xs : List X) (x : X) → map f (xs ++ x ∷ []) ≡ map f xs ++ f x ∷ []
 map_push f [] x = refl

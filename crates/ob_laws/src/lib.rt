@@ -6,7 +6,7 @@ pub mod code_laws;
 pub mod printed_laws;
 pub mod read_back_laws;
 pub mod search_laws;
-pub mod served_laws;
+pub mod served_limit;
 pub mod shown_laws;
 
 pub use code_laws::code_shows_merges;

@@ -3,7 +3,7 @@ use Rattle.std.specs.Prelude.{◌≡◌, ℕ, ◌≤◌, List, [], ◌∷◌, So
 use Rattle.ob_grammar.specs.Tree.{Expr}
 use Rattle.ob_interface.specs.declared.scalar.Scalar.{Scalar}
 use Rattle.ob_interface.specs.declared.scalar.ScalarType.{ScalarType}
-use Rattle.ob_interface.specs.Call.{ObjectCall, Trapped}
+use Rattle.ob_interface.specs.Call.{ObjectCall}
 use Rattle.ob_typing.specs.Program.{Expression, Statements, Program}
 use Rattle.ob_typing.specs.Arithmetic.{Gives}
 use Rattle.ob_typing.specs.Scopes.{Environment}
@@ -26,13 +26,6 @@ CallsGainNoTurns program =
     (depth number : ℕ) (handed : List Held) (turns left : ℕ) (before after : Store)
     → calls program depth number handed turns before ≡ Done left after
     → left ≤ turns
-
--- a call from outside that traps leaves the state as it was
-abbrev pub TrapsLeaveTheState : Program → Type 0
-TrapsLeaveTheState program =
-    (call : ObjectCall) (budget k : ℕ) (state : State)
-    → (effect program call budget state).reply ≡ Trapped k
-    → (effect program call budget state).state ≡ state
 
 -- an opening that is done leaves a state of the module's variables, and nothing else
 abbrev pub OpeningLeavesAState : Program → Type 0

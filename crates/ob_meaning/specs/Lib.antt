@@ -14,3 +14,4 @@ pub mod Exported
 pub mod OverStore
 pub mod Resolved
 pub mod Same
+pub mod TrappedCalls

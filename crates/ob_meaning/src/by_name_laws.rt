@@ -6,11 +6,11 @@ ghost use Rattle.ob_meaning.specs.ByNameObject.{State, HasVariables, IsOpening};
 ghost use Rattle.ob_meaning.specs.ByNameLaws.{
   StatementsGainNoTurns,
   CallsGainNoTurns,
-  TrapsLeaveTheState,
   OpeningLeavesAState,
   CallsLeaveAState,
   ConstantsAreValues,
 };
+ghost use Rattle.ob_meaning.specs.TrappedCalls.{TrapsLeaveTheState};
 
 /// Statements that are done leave no more turns than they had, and neither does a call in the text.
 pub fn no_run_gains_turns()

@@ -7,7 +7,7 @@ use Rattle.ob_object_compile.specs.Asked.{by_body}
 use Rattle.ob_object_compile.specs.Compilation.{IsCompilation, ObjectParts}
 use Rattle.wf_table.specs.Bound.{bound}
 use Rattle.wf_table.specs.Start.{sizes_of}
-use Rattle.wf_table.specs.Table.{block_words}
+use Rattle.wf_table.specs.StepTable.{block_words}
 use Rattle.wf_table.specs.declared.process.Sizes.{Sizes}
 
 -- the numbers of words that its machine works with

@@ -7,7 +7,7 @@ ghost use Rattle.ob_object_compile.specs.Compilation.{most_instructions};
 ghost use Rattle.ob_object_compile.specs.View.{object_in};
 ghost use Rattle.wf_table.specs.Bound.{bound};
 ghost use Rattle.wf_table.specs.Ranges.{IsSized};
-ghost use Rattle.wf_table.specs.Table.{block_words};
+ghost use Rattle.wf_table.specs.StepTable.{block_words};
 
 use ob_interface::MOST_PROCESSES;
 use ob_object_compile::Object;

@@ -12,7 +12,7 @@ use Rattle.wf_table.specs.Object.{State}
 use Rattle.wf_table.specs.Runs.{run, submissions, turns}
 use Rattle.wf_table.specs.Schedule.{steps_of}
 use Rattle.wf_table.specs.Start.{sizes_of}
-use Rattle.wf_table.specs.Table.{Process}
+use Rattle.wf_table.specs.StepTable.{Process}
 
 -- of an object of n processes that begins in this state, with these scripts
 module _ {Run : Type 0} (m : Meaning Run) (n : ℕ) (scripts : List (ℕ × ObjectCall)) (start : State Run) where

@@ -8,7 +8,7 @@ use Rattle.ob_grammar.specs.Tree.{Name, Expr, Stmts, TypeExpr, ConstDecl, TypeDe
 use Rattle.ob_grammar.specs.Grammar
 use Rattle.ob_grammar.specs.Grammar.{Lexemes, Phrase, Takes, TakesAt, TakesName, TakesWord, Perhaps, Separated, Expression, IdentList, IsType, ConstDeclaration, TypeDeclaration, VarDeclaration, FPSection, FormalParameters, ProcedureHeading, BodyPart, DeclarationsPart, ProcedureDeclaration, ProcedureDeclarations, ModuleText}
 use Rattle.ob_grammar.specs.Limits.{deepest_nesting}
-use Rattle.ob_grammar.specs.Conditions.{differing, in_expr, in_type, in_constants, in_types, in_variables, in_parameters, in_declarations, in_body, in_procedures}
+use Rattle.ob_grammar.specs.EndNamesAndNesting.{differing, in_expr, in_type, in_constants, in_types, in_variables, in_parameters, in_declarations, in_body, in_procedures}
 use Rattle.ob_parser.specs.Reading.{Form, Sequel, behind_part, Stops, Reads, kind_at}
 use Rattle.ob_parser.specs.Forms as forms
 use Rattle.ob_parser.specs.Forms.{token, opens, Both, both, linked}

@@ -12,7 +12,7 @@ use Rattle.ob_grammar.specs.Tree
 use Rattle.ob_grammar.specs.Tree.{Name, Expr, Operands, no_operand, operand, Selectors}
 use Rattle.ob_grammar.specs.Grammar
 use Rattle.ob_grammar.specs.Grammar.{Lexemes, TakesAt, takes, TakesName, Perhaps, IsRelation, TakesSign, Expression, SimpleExpression, Terms, Term, Factors, Factor, Selector}
-use Rattle.ob_grammar.specs.Conditions.{opening, in_expr, in_operands}
+use Rattle.ob_grammar.specs.EndNamesAndNesting.{opening, in_expr, in_operands}
 use Rattle.ob_parser.specs.Reading.{Form, Stops, Reads, unexpected, Refuses, kind_at, place_at}
 use Rattle.ob_parser.specs.Forms as forms
 use Rattle.ob_parser.specs.Forms.{token, opens, Both, both, simple_goes_on, expression_goes_on}

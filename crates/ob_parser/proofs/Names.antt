@@ -8,7 +8,7 @@ use Rattle.ob_scan.specs.Lexemes.{Lexeme, lexeme}
 use Rattle.ob_grammar.specs.Tree.{Name}
 use Rattle.ob_grammar.specs.Grammar
 use Rattle.ob_grammar.specs.Grammar.{Lexemes, TakesAt, takes, TakesName}
-use Rattle.ob_grammar.specs.Conditions.{Breach, name_differs, differing}
+use Rattle.ob_grammar.specs.EndNamesAndNesting.{Breach, name_differs, differing}
 use Rattle.ob_parser.specs.Reading.{Reads, breaks, Refuses, kind_at, place_at}
 use Rattle.ob_parser.specs.Forms as forms
 use Rattle.ob_scan.specs.Sources.{State, Steps}

@@ -9,7 +9,7 @@ use Rattle.ob_parser.specs.declared.parser.ParseFault.{ParseFault}
 use Rattle.ob_parser.specs.declared.parser.ParseFault.TheVariants.{TooDeep}
 use Rattle.ob_grammar.specs.Grammar.{Lexemes, TakesAt}
 use Rattle.ob_grammar.specs.Limits.{deepest_nesting}
-use Rattle.ob_grammar.specs.Conditions.{Breach, too_deep, opening}
+use Rattle.ob_grammar.specs.EndNamesAndNesting.{Breach, too_deep, opening}
 use Rattle.ob_parser.specs.Reading.{Form, breaks, Refuses, kind_at, place_at}
 use Rattle.ob_parser.specs.Forms.{token, opens, both}
 use Rattle.ob_scan.specs.Tokens.{TokenizedText}

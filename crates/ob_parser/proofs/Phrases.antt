@@ -4,7 +4,7 @@ use Rattle.ob_scan.specs.declared.token.Kind.{Kind}
 use Rattle.ob_grammar.specs.Grammar.{Lexemes, Phrase, Takes, TakesAt, takes, TakesWord, Each, Separated, Perhaps, Behind, PartBehind}
 use Rattle.ob_grammar.specs.Tree.{DeclarationPart}
 use Rattle.ob_grammar.specs.Grammar as Grammar
-use Rattle.ob_grammar.specs.Conditions.{Breach}
+use Rattle.ob_grammar.specs.EndNamesAndNesting.{Breach}
 use Rattle.ob_parser.specs.Reading.{Form, Stops, Reads, kind_at, place_at}
 use Rattle.ob_parser.specs.Forms as forms
 use Rattle.ob_parser.specs.Forms.{token, Both, both}

@@ -6,7 +6,7 @@ use Rattle.ob_scan.specs.Lexemes.{lexeme}
 use Rattle.ob_grammar.specs.Tree.{Name, Expr, Selectors, no_selector}
 use Rattle.ob_grammar.specs.Grammar
 use Rattle.ob_grammar.specs.Grammar.{Lexemes, TakesAt, takes, TakesName, Expression, Selector}
-use Rattle.ob_grammar.specs.Conditions.{opening, in_expr, in_selectors}
+use Rattle.ob_grammar.specs.EndNamesAndNesting.{opening, in_expr, in_selectors}
 use Rattle.ob_parser.specs.Reading.{Form, Same, Stops, Reads, kind_at}
 use Rattle.ob_parser.specs.Forms as forms
 use Rattle.ob_parser.specs.Forms.{OneSelector, TakesSelector, in_front, in_selector, token, opens, Both, both, selectors_go_on, term_goes_on, simple_goes_on, expression_goes_on}

@@ -2,7 +2,7 @@
 use Rattle.std.proofs.Common.{◌≡◌, ◌≢◌, ℕ, suc, ◌<◌, List, ◌++◌, length, take, drop, ap, sym, ◌∙◌, subst, inl, inr, refl, arith}
 use Rattle.std.proofs.lemmas.List.{take-append-drop}
 use Rattle.ob_scan.specs.Tokens.{HasTokens, TokenizedText}
-use Rattle.ob_grammar.specs.Conditions.{KeepsConditions, breaches}
+use Rattle.ob_grammar.specs.EndNamesAndNesting.{KeepsConditions, breaches}
 use Rattle.ob_grammar.specs.Grammar.{Derives, Lexemes}
 use Rattle.ob_grammar.specs.Texts.{HasText, IsTextOf}
 use Rattle.ob_grammar.specs.Tree.{Module}

@@ -7,7 +7,7 @@ use Rattle.ob_grammar.specs.Tree
 use Rattle.ob_grammar.specs.Tree.{Name, Expr, Selectors, Stmt, Stmts, no_stmt, stmt, Branches, no_branch, Otherwise, no_else, else'}
 use Rattle.ob_grammar.specs.Grammar
 use Rattle.ob_grammar.specs.Grammar.{Lexemes, Takes, TakesAt, takes, TakesName, Separated, Perhaps, Expression, ActualParameters, Statement, StatementSequence, MoreStatements, Alternative, MoreAlternatives, ElsePart}
-use Rattle.ob_grammar.specs.Conditions.{Breach, opening, in_expr, in_selectors, in_actuals, in_stmt, in_stmts, in_branches, in_otherwise, in_body}
+use Rattle.ob_grammar.specs.EndNamesAndNesting.{Breach, opening, in_expr, in_selectors, in_actuals, in_stmt, in_stmts, in_branches, in_otherwise, in_body}
 use Rattle.ob_parser.specs.Reading.{Form, Stops, Reads, kind_at}
 use Rattle.ob_parser.specs.Forms as forms
 use Rattle.ob_parser.specs.Forms.{assignment_goes_on, OneBranch, TakesBranch, token, opens, Both, both}

@@ -5,7 +5,7 @@ use Rattle.std.specs.Result.{IsErrAnd}
 use Rattle.ob_scan.specs.declared.token.Kind.{Kind}
 use Rattle.ob_scan.specs.Lexemes.{Lexeme, place_of}
 use Rattle.ob_scan.specs.Tokens.{TokenizedText}
-use Rattle.ob_grammar.specs.Conditions.{name_differs, too_deep}
+use Rattle.ob_grammar.specs.EndNamesAndNesting.{name_differs, too_deep}
 use Rattle.ob_grammar.proofs.Exits.{exits}
 use Rattle.ob_scan.specs.Sources.{State, Stands, Steps}
 use Rattle.ob_parser.specs.declared.parser.ParseFault.{ParseFault}

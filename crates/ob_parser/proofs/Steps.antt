@@ -5,7 +5,7 @@ use Rattle.std.proofs.lemmas.List.Elements.{Contains-append_left}
 use Rattle.ob_scan.specs.declared.token.Kind.{Kind}
 use Rattle.ob_scan.specs.Lexemes.{Lexeme, lexeme, place_of}
 use Rattle.ob_grammar.specs.Grammar.{Lexemes, TakesAt, takes}
-use Rattle.ob_grammar.specs.Conditions.{Breach}
+use Rattle.ob_grammar.specs.EndNamesAndNesting.{Breach}
 use Rattle.ob_parser.specs.Reading.{Form, Sequel, behind_part, Same, Stops, Reads, Reason, unexpected, breaks, Explains, Refuses, kind_of, kind_at, place_at, GoesOnWell}
 use Rattle.ob_parser.specs.Forms.{nothing, token, both, linked}
 

@@ -7,7 +7,7 @@ use Rattle.ob_grammar.specs.Tree
 use Rattle.ob_grammar.specs.Tree.{Name, Expr, TypeExpr, FieldLists, OneFieldList, no_list}
 use Rattle.ob_grammar.specs.Grammar
 use Rattle.ob_grammar.specs.Grammar.{Lexemes, Takes, TakesAt, TakesName, Expression, IdentList, IsType, FieldList, FieldListSequence, MoreFields}
-use Rattle.ob_grammar.specs.Conditions.{in_fields, opening}
+use Rattle.ob_grammar.specs.EndNamesAndNesting.{in_fields, opening}
 use Rattle.ob_parser.specs.Reading.{Form, Stops, Reads, kind_at}
 use Rattle.ob_parser.specs.Forms as forms
 use Rattle.ob_parser.specs.Forms.{list_in_front, in_field_list, token, opens, Both, both}

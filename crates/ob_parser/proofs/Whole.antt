@@ -10,7 +10,7 @@ use Rattle.ob_scan.specs.Tokens.{TokenizedText, HasTokens}
 use Rattle.ob_scan.specs.Lexemes.{Lexeme, place_of}
 use Rattle.ob_grammar.specs.Tree.{Module}
 use Rattle.ob_grammar.specs.Grammar.{Lexemes, Derives, BeginsModule}
-use Rattle.ob_grammar.specs.Conditions.{Breach, name_differs, too_deep, breaches, NameDiffersAt, TooDeepAt}
+use Rattle.ob_grammar.specs.EndNamesAndNesting.{Breach, name_differs, too_deep, breaches, NameDiffersAt, TooDeepAt}
 use Rattle.ob_grammar.specs.Texts.{HasText}
 use Rattle.ob_scan.proofs.TokenFacts.{lexemes_spelled}
 use Rattle.ob_parser.specs.ParseFaults.{lexemes_of, BeginsGoodModule, HasPlace, BreaksCondition, IsParseFault}

@@ -20,7 +20,7 @@ use Rattle.ob_grammar.specs.View.{module_of, name_of, expr_of, type_of, stmts_in
 use Rattle.ob_parser.specs.Forms as forms
 use Rattle.ob_grammar.specs.Tree.{OneFieldList, ProcedureTree}
 use Rattle.ob_scan.specs.Sources.{State, Stands}
-use Rattle.ob_grammar.specs.Conditions.{name_differs, too_deep, KeepsConditions}
+use Rattle.ob_grammar.specs.EndNamesAndNesting.{name_differs, too_deep, KeepsConditions}
 use Rattle.ob_grammar.specs.Grammar.{Derives}
 use Rattle.ob_grammar.specs.declared.tree.ModuleTree.{ModuleTree}
 use Rattle.ob_parser.specs.ParseFaults.{lexemes_of, HasPlace, IsParseFault}

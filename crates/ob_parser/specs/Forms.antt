@@ -6,7 +6,7 @@ use Rattle.ob_grammar.specs.Tree
 use Rattle.ob_grammar.specs.Tree.{Name, Expr, Operands, Selectors, TypeExpr, FieldLists, OneFieldList, Stmt, Stmts, Branches, Otherwise, ConstDecl, TypeDecl, VarDecl, DeclarationPart, Section, Heading, Declarations, Procedures, ProcedureTree, Module}
 use Rattle.ob_grammar.specs.Grammar
 use Rattle.ob_grammar.specs.Grammar.{Lexemes, Phrase, Takes, TakesAt, TakesName, TakesWord, Each, Separated, Perhaps, Behind, PartBehind, TakesSign, Expression, SimpleExpression, Terms, Term, Factors, Factor, IdentList, IsType, FieldList, FieldListSequence, MoreFields, ActualParameters, Statement, StatementSequence, MoreStatements, Alternative, MoreAlternatives, ElsePart, ConstDeclaration, TypeDeclaration, VarDeclaration, FPSection, FormalParameters, ProcedureHeading, BodyPart, DeclarationsPart, ProcedureDeclaration, ProcedureDeclarations, ModuleText}
-use Rattle.ob_grammar.specs.Conditions.{Breach, opening, differing, in_expr, in_operands, in_selectors, in_type, in_fields, in_stmt, in_stmts, in_branches, in_otherwise, in_body, in_constants, in_types, in_variables, in_parameters, in_declarations, in_procedures, breaches}
+use Rattle.ob_grammar.specs.EndNamesAndNesting.{Breach, opening, differing, in_expr, in_operands, in_selectors, in_type, in_fields, in_stmt, in_stmts, in_branches, in_otherwise, in_body, in_constants, in_types, in_variables, in_parameters, in_declarations, in_procedures, breaches}
 use Rattle.ob_parser.specs.Reading.{Form, Sequel}
 
 -- what continues a phrase

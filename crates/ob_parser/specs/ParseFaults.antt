@@ -7,7 +7,7 @@ use Rattle.ob_scan.specs.declared.token.Token.{Token}
 use Rattle.ob_scan.specs.Tokens.{HasTokens, TokenizedText}
 use Rattle.ob_grammar.specs.Tree.{Module}
 use Rattle.ob_grammar.specs.Grammar.{Lexemes, Derives, BeginsModule}
-use Rattle.ob_grammar.specs.Conditions.{KeepsConditions, NameDiffersAt, TooDeepAt}
+use Rattle.ob_grammar.specs.EndNamesAndNesting.{KeepsConditions, NameDiffersAt, TooDeepAt}
 
 -- the tokens of a text, as the grammar reads them
 abbrev pub lexemes_of : TokenizedText → Lexemes

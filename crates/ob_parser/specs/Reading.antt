@@ -4,7 +4,7 @@ use Rattle.std.specs.Option.{option_map_or}
 use Rattle.ob_scan.specs.declared.token.Kind.{Kind}
 use Rattle.ob_scan.specs.Lexemes.{Lexeme, lexeme, place_of}
 use Rattle.ob_grammar.specs.Grammar.{Lexemes, Phrase}
-use Rattle.ob_grammar.specs.Conditions.{Breach}
+use Rattle.ob_grammar.specs.EndNamesAndNesting.{Breach}
 
 -- A phrase with what its contract speaks of: the kinds of token that continue the phrase where it could also end,
 -- and what breaks a condition in it.

@@ -9,7 +9,7 @@ ghost use Rattle.ob_scan.specs.Lexemes.{IsSpelled};
 ghost use Rattle.ob_scan.specs.Spelling.{number_value};
 ghost use Rattle.ob_grammar.specs.Tree.{Module as ModuleTree};
 ghost use Rattle.ob_grammar.specs.Grammar.{Derives};
-ghost use Rattle.ob_grammar.specs.Conditions.{KeepsConditions};
+ghost use Rattle.ob_grammar.specs.EndNamesAndNesting.{KeepsConditions};
 ghost use Rattle.ob_parser.specs.ParseFaults.{lexemes_of, IsParseFault};
 ghost use Rattle.ob_grammar.specs.View.{module_of};
 ghost use Rattle.ob_scan.specs.Sources.{Steps, lexeme_of};

@@ -1,83 +1,60 @@
 -- What is told behind a fault of a module's text.
-use Rattle.std.specs.Prelude.{◌≡◌, ◌⊎◌, ◌<◌, ◌≤◌, ℕ, true, false, List, [], ◌∷◌, ◌++◌, Option, None, Some, codes, length}
-use Rattle.ob_check.specs.CheckedText.{IsNumberedText, IsTextFault}
+use Rattle.std.specs.Prelude.{◌≡◌, ◌<◌, ℕ, List, [], ◌∷◌, ◌++◌, Option, None, Some, codes, length}
 use Rattle.ob_check.specs.declared.module_text.TextFault.{TextFault}
-use Rattle.ob_messages.specs.Explanations.{explanation}
-use Rattle.ob_messages.specs.Remarks.{Remark}
-use Rattle.ob_slips.specs.Mendings.{mended, mending_text, origin_in}
+use Rattle.ob_explain_sentences.specs.Explanations.{explanation}
+use Rattle.ob_explain_sentences.specs.Remarks.{Remark}
+use Rattle.ob_mendings.specs.Mendings.{IsMended, mending_text, move_of, origin_in}
+use Rattle.ob_mendings.specs.Verdicts.{Finds, IsRight}
 use Rattle.ob_slips.specs.Remarks.{IsTextRemark}
-use Rattle.ob_slips.specs.Slips.{IsMending, is_further}
-use Rattle.ob_slips.specs.declared.mending.Mending.{Mending}
+use Rattle.ob_mendings.specs.declared.mending.Mending.{Mending}
+use Rattle.ob_mendings.specs.declared.origin.Move.{Move}
 use Rattle.ob_slips.specs.declared.stage.Stage as Rust
-use Rattle.ob_typing.specs.ModuleText.{IsModule}
-use Rattle.ob_typing.specs.Program.{Program}
 
 -- ---- texts with slips mended
 
--- a module's own text, of a file of this name, and the text with these mendings, the last one first
+-- a module's own text, of a file of this name, and the text with mendings, which move its places so, the last one first
 pub record Stage : Type 0 where
   pub name : List ℕ
   pub own : List ℕ
   pub text : List ℕ
-  pub mendings : List Mending
+  pub moves : List Move
 
 abbrev pub stage_of : Rust.Stage → Stage
-stage_of s = record { name = s.name.now; own = s.own.now; text = s.text.now; mendings = s.mendings.now }
+stage_of s = record { name = s.name.now; own = s.own.now; text = s.text.now; moves = s.moves.now }
 
 -- the module's own text, in which nothing is mended
 abbrev pub own_stage : (name text : List ℕ) → Stage
-own_stage name text = record { name = name; own = text; text = text; mendings = [] }
+own_stage name text = record { name = name; own = text; text = text; moves = [] }
 
--- with one mending more
-abbrev pub mended_stage : Mending → Stage → Stage
-mended_stage m s = record { name = s.name; own = s.own; text = mended s.text m; mendings = m ∷ s.mendings }
-
--- ---- what `check` finds in them
-
-abbrev pub IsRight : (text : List ℕ) → Type 0
-IsRight text = (program : Program) × IsModule text program
-
--- the text is that of no module, and has this fault, which has a number
-pub record Finds (text : List ℕ) (e : TextFault) : Type 0 where
-  pub says : IsTextFault text e
-  pub numbered : IsNumberedText e
-  pub none : IsRight text → ⊥
-
-abbrev pub IsVerdict : (text : List ℕ) → Option TextFault → Type 0
-IsVerdict text None = IsRight text
-IsVerdict text (Some e) = Finds text e
+-- with one mending more, by which the text becomes this one
+abbrev pub mended_stage : Mending → (whole : List ℕ) → Stage → Stage
+mended_stage m whole s = record { name = s.name; own = s.own; text = whole; moves = move_of m ∷ s.moves }
 
 -- ---- what is told
-
--- Of each fault that comes of a slip the mending; of at most nine, so that there are at most ten faults.
-abbrev pub IsNextMending : Stage → TextFault → Option Mending → Type 0
-IsNextMending s e m = ((length s.mendings < 9) × IsMending s.text e m) ⊎ ((9 ≤ length s.mendings) × (m ≡ None))
 
 -- what is said of the text with the mendings, at its place in the module's own text
 abbrev pub shown_own : Stage → Option Remark → List ℕ
 shown_own s None = []
 shown_own s (Some r) =
-    explanation s.name s.own (record { place = origin_in s.mendings r.place; sentence = r.sentence; hint = r.hint })
+    explanation s.name s.own (record { place = origin_in s.moves r.place; sentence = r.sentence; hint = r.hint })
 
 -- the fault of the text with the mendings, of which this is the last, of the text before it
 pub record IsNext (s : Stage) (before : List ℕ) (last : Mending) (e : TextFault) (told : List ℕ) : Type 0 where
   pub remark : Option Remark
   pub remarked : IsTextRemark s.text e remark
-  pub is : told ≡ mending_text before last.meant ++ codes ", the next fault is:\n" ++ shown_own s remark
+  pub is : told ≡ mending_text before last ++ codes ", the next fault is:\n" ++ shown_own s remark
 
 -- that there may be more faults than those that are told
 abbrev pub more_faults : List ℕ
 more_faults = codes "there may be more faults: `check` stops at the first\n"
 
--- What is told behind a fault of a text. Where no mending is known, or ten faults are told, that there may be more. Else it is mended: then the
--- text is right; or the fault stays, so it was no such slip, and there may be more; or the text has a further fault, which is told, and what is
--- told behind that one.
-pub data IsTold : Stage → TextFault → (told : List ℕ) → Type 0 where
-  ends : {s : Stage} {e : TextFault} → IsNextMending s e None → IsTold s e more_faults
-  rights : {s : Stage} {e : TextFault} (m : Mending) → IsNextMending s e (Some m) → IsRight (mended s.text m)
-      → IsTold s e (mending_text s.text m.meant ++ codes ", the text has no other fault\n")
-  stays : {s : Stage} {e : TextFault} (m : Mending) (f : TextFault) → IsNextMending s e (Some m) → Finds (mended s.text m) f
-      → is_further m f ≡ false → IsTold s e more_faults
-  goes_on : {s : Stage} {e : TextFault} (m : Mending) (f : TextFault) (next behind : List ℕ) → IsNextMending s e (Some m)
-      → Finds (mended s.text m) f → is_further m f ≡ true → IsNext (mended_stage m s) s.text m f next → IsTold (mended_stage m s) f behind
-      → IsTold s e (next ++ behind)
+-- What is told behind a fault of a text: that there may be more; or a mending with which the text is right; or one with which it has another
+-- fault, that fault, and what is told behind it. At most nine are mended, so that at most ten faults are told. Which mending is chosen is
+-- not said here: each that is told was made, and what is told behind it is true of the text with it.
+pub data IsTold : Stage → (told : List ℕ) → Type 0 where
+  ends : {s : Stage} → IsTold s more_faults
+  rights : {s : Stage} (m : Mending) (whole : List ℕ) → IsMended s.text m whole → IsRight whole
+      → IsTold s (mending_text s.text m ++ codes ", the text has no other fault\n")
+  goes_on : {s : Stage} (m : Mending) (whole : List ℕ) (f : TextFault) (next behind : List ℕ) → length s.moves < 9
+      → IsMended s.text m whole → Finds whole f → IsNext (mended_stage m whole s) s.text m f next → IsTold (mended_stage m whole s) behind
+      → IsTold s (next ++ behind)

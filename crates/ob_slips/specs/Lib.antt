@@ -1,9 +1,2 @@
 pub mod Behind
-pub mod Marks
-pub mod Mendings
-pub mod Parts
 pub mod Remarks
-pub mod Signs
-pub mod Slips
-pub mod Wheres
-pub mod Words

@@ -3,7 +3,7 @@ use Rattle.std.specs.Prelude.{◌≡◌, ℕ, List, Option, None}
 use Rattle.ob_check.specs.declared.module_text.TextFault.{TextFault}
 use Rattle.ob_check.specs.declared.module_text.TextFault.TheVariants as Texts
 use Rattle.ob_diagnosis.specs.Remarks.{IsCheckRemark, IsParseRemark, IsScanRemark}
-use Rattle.ob_messages.specs.Remarks.{Remark}
+use Rattle.ob_explain_sentences.specs.Remarks.{Remark}
 
 -- the remark on a fault of a module's text; none for want of memory
 abbrev pub IsTextRemark : List ℕ → TextFault → Option Remark → Type 0

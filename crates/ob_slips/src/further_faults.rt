@@ -1,18 +1,19 @@
 //! The faults that a module's text has behind its slips.
 
 ghost use Rattle.std.specs.Prelude.{◌≡◌, ◌∷◌, ◌++◌, IfOk, codes, option_map, string_bytes};
-ghost use Rattle.ob_messages.specs.Remarks.{remark_of};
-ghost use Rattle.ob_slips.specs.Behind.{IsNext, IsNextMending, IsTold, more_faults, own_stage, shown_own, stage_of};
-ghost use Rattle.ob_slips.specs.Mendings.{mending_text};
+ghost use Rattle.ob_explain_sentences.specs.Remarks.{remark_of};
+ghost use Rattle.ob_slips.specs.Behind.{IsNext, IsTold, more_faults, own_stage, shown_own, stage_of};
+ghost use Rattle.ob_mendings.specs.Mendings.{mending_text};
 
-use crate::mending::{Mending, mended, mending_text, origin_in};
-use crate::slip::{is_further, slip_mending};
+use crate::slip::slip_mending;
 use crate::slip_remark::text_remark;
 use crate::stage::Stage;
-use crate::verdict::verdict;
 use ob_check::TextFault;
-use ob_messages::explanation::explanation;
-use ob_messages::remark::Remark;
+use ob_explain_sentences::explanation::explanation;
+use ob_explain_sentences::remark::Remark;
+use ob_mendings::mending::{Mending, mended, mending_text};
+use ob_mendings::origin::{Move, origin_in};
+use ob_mendings::verdict::verdict;
 use std::alloc::{AllocError, Global};
 
 /// The most slips that are mended, so that ten faults are told.
@@ -25,39 +26,39 @@ pub fn told_behind(
     text: &[u8],
     fault: TextFault,
 ) -> Result<String, AllocError>
-    ensures { IfOk result (λ told. IsTold (own_stage name.now text.now) fault (string_bytes told)) }
+    ensures { IfOk result (λ told. IsTold (own_stage name.now text.now) (string_bytes told)) }
 {
     let stage = Stage {
         name,
         own: text,
         text,
-        mendings: &[],
+        moves: &[],
     };
     told_on(alloc, stage, fault)
 }
 
 /// What is told behind a fault of the text with mendings.
 fn told_on(alloc: Global, stage: Stage<'_>, fault: TextFault) -> Result<String, AllocError>
-    ensures { IfOk result (λ told. IsTold (stage_of stage.entry) fault (string_bytes told)) }
+    ensures { IfOk result (λ told. IsTold (stage_of stage.entry) (string_bytes told)) }
 {
-    let Some(mending) = next_mending(alloc, stage, fault)? else {
-        return more_faults(alloc);
-    };
-    let text = mended(alloc, stage.text, mending)?;
-    let Some(next) = verdict(alloc, &text)? else {
-        return all_right(alloc, stage.text, mending);
-    };
-    if !is_further(mending, next) {
+    if stage.moves.len() >= MOST_MENDINGS {
         return more_faults(alloc);
     }
-    let mendings = with_mending(alloc, mending, stage.mendings)?;
+    let Some(mending) = slip_mending(alloc, stage.text, fault)? else {
+        return more_faults(alloc);
+    };
+    let text = mended(alloc, stage.text, &mending)?;
+    let Some(next) = verdict(alloc, &text)? else {
+        return all_right(alloc, stage.text, &mending);
+    };
+    let moves = with_move(alloc, mending.moves(), stage.moves)?;
     let further = Stage {
         name: stage.name,
         own: stage.own,
         text: &text,
-        mendings: &mendings,
+        moves: &moves,
     };
-    let mut told = told_next(alloc, further, stage.text, mending, next)?;
+    let mut told = told_next(alloc, further, stage.text, &mending, next)?;
     let behind = told_on(alloc, further, next)?;
     told.push_str(behind.as_str())?;
     Ok(told)
@@ -73,40 +74,21 @@ fn more_faults(alloc: Global) -> Result<String, AllocError>
     )
 }
 
-/// The mending of a fault of the text with mendings, if it comes of a slip and may be mended.
-fn next_mending(
-    alloc: Global,
-    stage: Stage<'_>,
-    fault: TextFault,
-) -> Result<Option<Mending>, AllocError>
-    ensures { IfOk result (IsNextMending (stage_of stage.entry) fault) }
-{
-    if stage.mendings.len() < MOST_MENDINGS {
-        slip_mending(alloc, stage.text, fault)
-    } else {
-        Ok(None)
-    }
-}
-
-/// A mending before those that were made before it.
-fn with_mending(
-    alloc: Global,
-    mending: Mending,
-    before: &[Mending],
-) -> Result<Vec<Mending>, AllocError>
-    ensures { IfOk result (λ all. all.items ≡ mending ∷ before.now) }
+/// A move before those that were made before it.
+fn with_move(alloc: Global, moved: Move, before: &[Move]) -> Result<Vec<Move>, AllocError>
+    ensures { IfOk result (λ all. all.items ≡ moved ∷ before.now) }
 {
     let mut all = Vec::new(alloc);
-    all.push(mending)?;
+    all.push(moved)?;
     all.extend_from_slice(before)?;
     Ok(all)
 }
 
 /// That a text with a mending, and those before it, is right.
-fn all_right(alloc: Global, text: &[u8], mending: Mending) -> Result<String, AllocError>
-    ensures { IfOk result (λ told. string_bytes told ≡ mending_text text.now mending.meant ++ codes ", the text has no other fault\n") }
+fn all_right(alloc: Global, text: &[u8], mending: &Mending) -> Result<String, AllocError>
+    ensures { IfOk result (λ told. string_bytes told ≡ mending_text text.now mending.now ++ codes ", the text has no other fault\n") }
 {
-    let mut told = mending_text(alloc, text, mending.meant)?;
+    let mut told = mending_text(alloc, text, mending)?;
     told.push_str(", the text has no other fault\n")?;
     Ok(told)
 }
@@ -116,12 +98,12 @@ fn told_next(
     alloc: Global,
     stage: Stage<'_>,
     before: &[u8],
-    last: Mending,
+    last: &Mending,
     fault: TextFault,
 ) -> Result<String, AllocError>
-    ensures { IfOk result (λ told. IsNext (stage_of stage.entry) before.now last fault (string_bytes told)) }
+    ensures { IfOk result (λ told. IsNext (stage_of stage.entry) before.now last.now fault (string_bytes told)) }
 {
-    let mut told = mending_text(alloc, before, last.meant)?;
+    let mut told = mending_text(alloc, before, last)?;
     told.push_str(", the next fault is:\n")?;
     let remark = text_remark(alloc, stage.text, fault)?;
     told.push_str(shown_own(alloc, stage, remark)?.as_str())?;
@@ -135,7 +117,7 @@ fn shown_own(alloc: Global, stage: Stage<'_>, remark: Option<Remark>) -> Result<
     match remark {
         Some(remark) => {
             let own = Remark {
-                place: origin_in(stage.mendings, remark.place),
+                place: origin_in(stage.moves, remark.place),
                 sentence: remark.sentence,
                 hint: remark.hint,
             };

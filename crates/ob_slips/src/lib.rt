@@ -1,20 +1,21 @@
-//! Slips of one token, or in a name or a keyword, in a module's text, and the faults behind them: those that the text has where the slips before
-//! them are mended, and statements and conditions that break a rule are left out.
+//! Slips in a module's text, and the faults behind them: those that the text has where the slips before them are mended, or what breaks a rule is
+//! left out.
 //!
-//! One may rely on a fault that is told being that of the mended text, at its place in the module's own text. Which slips are known,
-//! and the words, may change without asking.
+//! One may rely on a fault that is told being that of the mended text, at its place in the module's own text, and on a mending being told
+//! as it was made. Which mending is chosen, and the words, may change without asking.
 #![tactic(auto)]
 
+mod fix;
 pub mod further_faults;
 mod marks;
-pub mod mending;
-pub mod part;
+mod names;
+mod part;
 mod signs;
-pub mod slip;
+mod slip;
 pub mod slip_remark;
 pub mod stage;
-mod verdict;
-mod word_mending;
+mod tokens;
+mod values;
 mod words;
 
 pub use further_faults::told_behind;

@@ -1,97 +1,189 @@
-//! Signs that are slips: those of other languages, and those that are written twice or the wrong way round.
+//! Signs that are slips: those of other languages, and those that are written twice or the wrong way round; and comments and texts of other
+//! languages.
 
-ghost use Rattle.std.specs.Prelude.{◌≡◌, find, map, option_map};
-ghost use Rattle.ob_slips.specs.Signs.{IsSignMending, mending_of_sign, sign_of, signs, stands_at};
+use crate::fix::{
+    ARROW, ASSIGN, AT_LEAST, AT_MOST, BYTE, COMMENT, DIV, Fix, MOD, NOT, NOT_EQUAL, ONE, ONE_AND,
+    ONE_EQUAL, OR, UNEQUAL, ZERO, changed, fixed, left_out,
+};
+use crate::part::{CONDITIONS, part_at};
+use ob_evidence::text_site::Site;
+use ob_explain_sentences::place::halves;
+use ob_mendings::mending::{Everywhere, Mending, Told};
+use std::alloc::{AllocError, Global};
 
-use crate::mending::{Meant, Mending, put};
-use ob_messages::place::halves;
-
-/// A sign of which a part stands before the place of a fault, and the rest from there on; and what is meant by it, if it is a slip.
+/// A sign of which a part stands before the place of a fault, and the rest from there on; and what is meant by it.
 #[derive(Clone, Copy)]
-pub struct Sign {
+struct Sign {
     before: &'static [u8],
     from: &'static [u8],
-    meant: Option<Meant>,
+    fix: Fix,
 }
 
 /// A table: in each row what stands before the place, what stands from there on, and what is meant.
 macro_rules! signs {
-    ($($before:expr, $from:expr => $meant:expr;)*) => {
-        &[$(Sign { before: $before, from: $from, meant: $meant }),*]
+    ($($before:expr, $from:expr => $fix:expr;)*) => {
+        &[$(Sign { before: $before, from: $from, fix: $fix }),*]
     };
 }
 
 /// The signs that are known. Where several stand at a place, the first one counts.
 const SIGNS: &[Sign] = signs! {
-    b"<", b">" => Some(Meant::Unequal);
-    b"", b">=" => None;
-    b"", b"<=" => None;
-    b"=", b">" => Some(Meant::AtLeast);
-    b"=", b"<" => Some(Meant::AtMost);
-    b"=", b"=" => Some(Meant::OneEqual);
-    b"&", b"&" => Some(Meant::OneAnd);
-    b"", b"=:" => Some(Meant::Assign);
-    b"", b"==" => Some(Meant::Assign);
-    b"", b"=" => Some(Meant::Assign);
-    b"", b"<-" => Some(Meant::Arrow);
-    b"", b"!=" => Some(Meant::NotEqual);
-    b"", b"!" => Some(Meant::Not);
-    b"", b"||" => Some(Meant::Or);
-    b"", b"%" => Some(Meant::Mod);
-    b"", b"_" => Some(Meant::Letter);
-    b"", b"//" => None;
-    b"", b"/*" => None;
-    b"", b"/" => Some(Meant::Div);
+    b"<", b">" => UNEQUAL;
+    b"=", b">" => AT_LEAST;
+    b"=", b"<" => AT_MOST;
+    b"=", b"=" => ONE_EQUAL;
+    b"&", b"&" => ONE_AND;
+    b"", b"<-" => ARROW;
+    b"", b"!=" => NOT_EQUAL;
+    b"", b"!" => NOT;
+    b"", b"||" => OR;
+    b"", b"|" => OR;
+    b"", b"%" => MOD;
+    b"", b"/" => DIV;
+};
+
+/// The signs that are meant to assign.
+const ASSIGNS: &[Sign] = signs! {
+    b"", b"=:" => ASSIGN;
+    b"", b"==" => ASSIGN;
+    b"", b"=" => ASSIGN;
 };
 
 /// The mending of the sign that stands at a place, if it is a slip.
-pub(crate) fn sign_mending(text: &[u8], place: usize) -> Option<Mending>
-    ensures { IsSignMending text.now place result }
-{
-    match first_there(known(), text, place) {
-        Some(sign) => mending_of_sign(place, sign),
-        None => None,
+pub(crate) fn sign_mending(
+    alloc: Global,
+    text: &[u8],
+    place: usize,
+) -> Result<Option<Mending>, AllocError> {
+    let (_, from) = halves(text, place);
+    match from {
+        [b'_', ..] => Ok(Some(changed(
+            alloc,
+            place,
+            Everywhere::Letters,
+            "with a letter for each _",
+        ))),
+        [b'/', b'/', ..] => left_out(alloc, place, line_of(from), COMMENT),
+        [b'/', b'*', ..] => left_out(alloc, place, comment_of(from), COMMENT),
+        [b'"' | b'\'', ..] => fixed(alloc, place, quoted(from), ZERO),
+        _ => whole_mending(alloc, place, first_there(SIGNS, text, place)),
     }
 }
 
-/// The mending of a sign, if it is a slip: the whole of it is taken out.
-fn mending_of_sign(place: usize, sign: Sign) -> Option<Mending>
-    ensures { result ≡ mending_of_sign place (sign_of sign) }
-{
-    match sign.meant {
-        Some(meant) => Some(Mending {
-            place: place.saturating_sub(sign.before.len()),
-            meant,
-            taken: sign.before.len() + sign.from.len(),
-            put: put(meant).len(),
-        }),
-        None => None,
+/// The mending of a byte that begins no token: by the sign that it is a part of, or without it.
+pub(crate) fn byte_mending(
+    alloc: Global,
+    text: &[u8],
+    place: usize,
+) -> Result<Option<Mending>, AllocError> {
+    if let Some(mending) = sign_mending(alloc, text, place)? {
+        return Ok(Some(mending));
+    }
+    let (before, from) = halves(text, place);
+    let length = from.iter().take_while(|byte| !byte.is_ascii()).count();
+    if length > 0 && ends_name(before) {
+        return lettered(alloc, place, length);
+    }
+    fixed(alloc, place, length.max(1), BYTE)
+}
+
+/// Whether bytes end with a letter or a digit.
+fn ends_name(bytes: &[u8]) -> bool {
+    match bytes {
+        [.., last] => last.is_ascii_alphanumeric(),
+        [] => false,
     }
 }
 
-fn known() -> &'static [Sign]
-    ensures { map sign_of result.now ≡ signs }
-{
-    SIGNS
+/// The mending that puts letters in place of so many bytes.
+fn lettered(alloc: Global, place: usize, length: usize) -> Result<Option<Mending>, AllocError> {
+    let mut put = Vec::new(alloc);
+    for _at in 0..length {
+        put.push(b'x')?;
+    }
+    Ok(Some(Mending {
+        place,
+        taken: length,
+        put,
+        everywhere: Everywhere::Nothing,
+        told: Told::Words("with letters in its place"),
+    }))
+}
+
+/// The mending of a number that is too large.
+pub(crate) fn number_mending(
+    alloc: Global,
+    text: &[u8],
+    place: usize,
+) -> Result<Option<Mending>, AllocError> {
+    let (_, from) = halves(text, place);
+    let length = from.iter().take_while(|byte| byte.is_ascii_digit()).count();
+    fixed(alloc, place, length, ONE)
+}
+
+/// The mending of an `=` at the place that is meant to assign, in a statement.
+pub(crate) fn assign_mending(
+    alloc: Global,
+    site: &Site<'_, '_>,
+) -> Result<Option<Mending>, AllocError> {
+    match part_at(site) {
+        Some(part) if !CONDITIONS.contains(&part.leader.kind) => {
+            let sign = first_there(ASSIGNS, site.text, site.place);
+            whole_mending(alloc, site.place, sign)
+        }
+        _ => Ok(None),
+    }
+}
+
+/// The mending of a sign: the whole of it is taken out.
+fn whole_mending(
+    alloc: Global,
+    place: usize,
+    sign: Option<Sign>,
+) -> Result<Option<Mending>, AllocError> {
+    match sign {
+        Some(sign) => {
+            let begin = place.saturating_sub(sign.before.len());
+            fixed(alloc, begin, sign.before.len() + sign.from.len(), sign.fix)
+        }
+        None => Ok(None),
+    }
 }
 
 /// The first of these signs that stands at a place.
-fn first_there(mut signs: &[Sign], text: &[u8], place: usize) -> Option<Sign>
-    ensures { option_map sign_of result ≡ find (stands_at text.now place) (map sign_of signs.entry.now) }
-{
-    while let [sign, rest @ ..] = signs {
-        if stands_at(text, place, *sign) {
+fn first_there(signs: &[Sign], text: &[u8], place: usize) -> Option<Sign> {
+    let (before, from) = halves(text, place);
+    for sign in signs {
+        if before.ends_with(sign.before) && from.starts_with(sign.from) {
             return Some(*sign);
         }
-        signs = rest;
     }
     None
 }
 
-/// Whether a sign stands at a place.
-fn stands_at(text: &[u8], place: usize, sign: Sign) -> bool
-    ensures { result ≡ stands_at text.now place (sign_of sign) }
-{
-    let (before, from) = halves(text, place);
-    before.ends_with(sign.before) && from.starts_with(sign.from)
+/// The bytes up to the end of the line.
+fn line_of(from: &[u8]) -> &[u8] {
+    let length = from.iter().take_while(|byte| **byte != b'\n').count();
+    halves(from, length).0
+}
+
+/// A comment of C, up to its end, or to that of the text.
+fn comment_of(from: &[u8]) -> &[u8] {
+    for (at, byte) in from.iter().enumerate() {
+        if *byte == b'/' && at > 2 && halves(from, at).0.ends_with(b"*") {
+            return halves(from, at.saturating_add(1)).0;
+        }
+    }
+    from
+}
+
+/// How many bytes a text between quotation marks has, with them; one where none stands behind it in its line.
+fn quoted(from: &[u8]) -> usize {
+    let line = line_of(from);
+    let (first, rest) = line.split_at(line.len().min(1));
+    let inside = rest
+        .iter()
+        .take_while(|byte| !first.contains(*byte))
+        .count();
+    if inside < rest.len() { inside + 2 } else { 1 }
 }

@@ -1,221 +1,269 @@
-//! Which slips are known, by what stands at a fault of a text.
+//! Which mending is chosen, by what stands at a fault of a text: the first one with which the text has no fault, or one further on. Which sorts
+//! are tried, and in which order, is a matter of taste: rows of the tests show it.
 
-ghost use Rattle.std.specs.Prelude.{◌≡◌, IfOk};
-ghost use Rattle.std.specs.Char.{is_ascii_uppercase};
-ghost use Rattle.std.specs.List.{list_all};
-ghost use Rattle.ob_evidence.specs.Sites.{scene_of};
-ghost use Rattle.ob_slips.specs.Slips.{IsCallMending, IsGapMending, IsLineMending, IsMending, IsNamedMending, IsRuleMending, IsTokenMending, IsUnexpectedMending, IsUnknownMending};
-ghost use Rattle.ob_slips.specs.Slips.{begins_part, is_further, is_misspelt, is_off, lacks_semicolon};
-
+use crate::fix::{END_BEFORE, END_THERE, SEMICOLON, fixed};
 use crate::marks::{ends_line, mark_mending};
-use crate::mending::{Meant, Mending, origin, put};
+use crate::names::{end_mending, near_mending, twice_mending};
 use crate::part::part_mending;
-use crate::signs::sign_mending;
-use crate::word_mending::{
-    alone_mending, colon_mending, end_mending, keyword_mending, near_mending,
+use crate::signs::{assign_mending, byte_mending, number_mending, sign_mending};
+use crate::tokens::first_of;
+use crate::values::{result_mending, value_mending};
+use crate::words::{
+    alone_before, alone_there, colon_mending, keyword_mending, misspelt_before, misspelt_there,
+    prefix_mending, swapped_mending, type_mending,
 };
-use crate::words::{alone_before, alone_there};
 use ob_check::TextFault;
-use ob_evidence::small_keywords::first_of_statement;
-use ob_evidence::text_site::{Site, look_around};
-use ob_messages::place::halves;
+use ob_evidence::small_keywords::{first_of_statement, next_behind};
+use ob_evidence::text_site::{Site, is_kind, look_around};
+use ob_explain_names::expected::expected_kinds;
+use ob_explain_sentences::place::halves;
+use ob_explain_tokens::open::{is_unit, open_construct};
+use ob_mendings::mending::{Mending, mended};
+use ob_mendings::origin::{Move, origin};
+use ob_mendings::verdict::verdict;
 use ob_parser::parser::ParseFault;
-use ob_scan::{Kind, ScanFault, Token};
+use ob_scan::{Kind, ScanFault};
 use ob_scopes::fault::CheckFault;
 use ob_typing::rule::Rule;
 use std::alloc::{AllocError, Global};
 
-/// The mending of the slip from which a fault of a text comes, where it is one that is known.
-pub fn slip_mending(
+/// A sort of mendings.
+#[derive(Clone, Copy)]
+enum Sort {
+    /// A byte that begins no token, and a number that is too large.
+    Byte,
+    Number,
+    /// A sign of another language, and an `=` that is meant to assign.
+    Sign,
+    Assign,
+    /// A keyword in small letters, or a word of another language: there, before it, or where the statement begins.
+    WordThere,
+    WordBefore,
+    WordFirst,
+    /// A keyword that is misspelt.
+    MisspeltThere,
+    MisspeltBefore,
+    /// The word before a name that is declared.
+    Prefix,
+    /// A type before its name.
+    Swapped,
+    /// By the tokens around the place.
+    Mark,
+    /// A keyword in small letters before a `:`; one that stands alone, before the place or there.
+    Colon,
+    AloneBefore,
+    AloneThere,
+    /// An END or a `;` that is missing.
+    End,
+    Semicolon,
+    /// A type of another language, a near name, one that is declared twice, and one behind an END.
+    Type,
+    Near,
+    Twice,
+    EndName,
+    /// The statement or the condition; a value, a length or a type; the type of a result.
+    Part,
+    Value,
+    Result,
+}
+
+/// The sorts that are tried where a token can't stand.
+const OF_TOKENS: &[Sort] = &[
+    Sort::Sign,
+    Sort::Assign,
+    Sort::WordThere,
+    Sort::WordBefore,
+    Sort::WordFirst,
+    Sort::MisspeltThere,
+    Sort::MisspeltBefore,
+    Sort::Prefix,
+    Sort::Swapped,
+    Sort::Mark,
+    Sort::Colon,
+    Sort::AloneBefore,
+    Sort::End,
+    Sort::Semicolon,
+    Sort::Part,
+    Sort::Result,
+    Sort::Value,
+];
+
+/// Those where none of a name is visible.
+const OF_NAMES: &[Sort] = &[
+    Sort::AloneThere,
+    Sort::Type,
+    Sort::Near,
+    Sort::Part,
+    Sort::Value,
+];
+
+/// A mending of the text of a fault, where one is known.
+pub(crate) fn slip_mending(
     alloc: Global,
     text: &[u8],
     fault: TextFault,
-) -> Result<Option<Mending>, AllocError>
-    ensures { IfOk result (IsMending text.now fault) }
-{
+) -> Result<Option<Mending>, AllocError> {
+    let Some(place) = place_of(fault) else {
+        return Ok(None);
+    };
+    let found = look_around(alloc, text, place)?;
+    let site = found.site(text, place);
+    for sort in sorts_of(fault) {
+        if let Some(mending) = mending_of(alloc, &site, *sort)?
+            && helps(alloc, text, fault, &mending)?
+        {
+            return Ok(Some(mending));
+        }
+    }
+    Ok(None)
+}
+
+/// The sorts that are tried at a fault, in this order.
+fn sorts_of(fault: TextFault) -> &'static [Sort] {
     match fault {
-        TextFault::Scan(ScanFault::StrayByte(place)) => Ok(sign_mending(text, place)),
-        TextFault::Parse(ParseFault::Unexpected(place)) => unexpected_mending(alloc, text, place),
-        TextFault::Parse(ParseFault::NameDiffers(place)) => end_mending(alloc, text, place),
-        TextFault::Check(CheckFault::Broken(broken)) => {
-            rule_mending(alloc, text, broken.rule, broken.place)
+        TextFault::Scan(ScanFault::StrayByte(_)) => &[Sort::Byte],
+        TextFault::Scan(ScanFault::NumberTooLarge(_)) => &[Sort::Number],
+        TextFault::Parse(ParseFault::Unexpected(_)) => OF_TOKENS,
+        TextFault::Parse(ParseFault::NameDiffers(_)) => &[Sort::EndName],
+        TextFault::Check(CheckFault::Broken(broken)) => match broken.rule {
+            Rule::UnknownName => OF_NAMES,
+            Rule::DeclaredTwice => &[Sort::Twice],
+            _ => &[Sort::Part, Sort::Value],
+        },
+        _ => &[],
+    }
+}
+
+/// The mending of a sort at a place, if there is one.
+fn mending_of(
+    alloc: Global,
+    site: &Site<'_, '_>,
+    sort: Sort,
+) -> Result<Option<Mending>, AllocError> {
+    match sort {
+        Sort::Byte => byte_mending(alloc, site.text, site.place),
+        Sort::Number => number_mending(alloc, site.text, site.place),
+        Sort::Sign => sign_mending(alloc, site.text, site.place),
+        Sort::Assign => assign_mending(alloc, site),
+        Sort::WordThere => keyword_mending(alloc, site, site.here()),
+        Sort::WordBefore => keyword_mending(alloc, site, site.last()),
+        Sort::WordFirst => keyword_mending(alloc, site, first_of_statement(site)),
+        Sort::MisspeltThere => misspelt_there(alloc, site),
+        Sort::MisspeltBefore => misspelt_before(alloc, site),
+        Sort::Prefix => prefix_mending(alloc, site),
+        Sort::Swapped => swapped_mending(alloc, site),
+        Sort::Mark => mark_mending(alloc, site),
+        Sort::Colon => colon_mending(alloc, site),
+        Sort::AloneBefore => alone_before(alloc, site),
+        Sort::AloneThere => alone_there(alloc, site),
+        Sort::End => missing_end(alloc, site),
+        Sort::Semicolon => missing_semicolon(alloc, site),
+        Sort::Type => type_mending(alloc, site),
+        Sort::Near => near_mending(alloc, site),
+        Sort::Twice => twice_mending(alloc, site),
+        Sort::EndName => end_mending(alloc, site),
+        Sort::Part => part_mending(alloc, site),
+        Sort::Value => value_mending(alloc, site),
+        Sort::Result => result_mending(alloc, site),
+    }
+}
+
+/// The mending that puts an END before the place, where the name of the module or the procedure stands that is open there: behind an END, which
+/// then closed something in it, or behind a statement.
+fn missing_end(alloc: Global, site: &Site<'_, '_>) -> Result<Option<Mending>, AllocError> {
+    match open_construct(site.before) {
+        Some(unit)
+            if is_unit(unit.kind)
+                && !site.word().is_empty()
+                && site.word_of(next_behind(site.tokens, unit.start)) == site.word() => {
+            if is_kind(site.last(), Kind::End) {
+                fixed(alloc, site.place, 0, END_BEFORE)
+            } else if next_ended(site) == site.word() {
+                Ok(None)
+            } else {
+                fixed(alloc, site.place, 0, END_THERE)
+            }
         }
         _ => Ok(None),
     }
 }
 
-/// The mending at the place where a rule is broken: by a near name, else without the statement or the condition there.
-fn rule_mending(
+/// The name behind the next END behind the place.
+fn next_ended<'t>(site: &Site<'t, '_>) -> &'t [u8] {
+    match first_of(site.behind, &[Kind::End]) {
+        Some(end) => site.word_of(next_behind(site.tokens, end.start)),
+        None => b"",
+    }
+}
+
+/// The mending that puts a `;` before the place, where a line ends.
+fn missing_semicolon(alloc: Global, site: &Site<'_, '_>) -> Result<Option<Mending>, AllocError> {
+    let (before, _) = halves(site.text, site.place);
+    let could = expected_kinds(alloc, site.text, site.place)?;
+    if ends_line(before) && could.contains(&Kind::Semicolon) {
+        fixed(alloc, site.place, 0, SEMICOLON)
+    } else {
+        Ok(None)
+    }
+}
+
+/// Whether a text has no fault with a mending, or one further on.
+fn helps(
     alloc: Global,
     text: &[u8],
-    rule: Rule,
-    place: usize,
-) -> Result<Option<Mending>, AllocError>
-    ensures { IfOk result (IsRuleMending text.now rule place) }
-{
-    if let Some(mending) = named_mending(alloc, text, rule, place)? {
-        return Ok(Some(mending));
-    }
-    part_mending(alloc, text, place)
-}
-
-/// The mending of a name, where it is unknown.
-fn named_mending(
-    alloc: Global,
-    text: &[u8],
-    rule: Rule,
-    place: usize,
-) -> Result<Option<Mending>, AllocError>
-    ensures { IfOk result (IsNamedMending text.now rule place) }
-{
-    match rule {
-        Rule::UnknownName => unknown_mending(alloc, text, place),
-        _ => Ok(None),
+    fault: TextFault,
+    mending: &Mending,
+) -> Result<bool, AllocError> {
+    let whole = mended(alloc, text, mending)?;
+    match verdict(alloc, &whole)? {
+        Some(next) => Ok(is_further(mending.moves(), fault, next)),
+        None => Ok(true),
     }
 }
 
-/// The mending of a name of which none is visible: of a keyword that stands alone, else by a near name.
-fn unknown_mending(alloc: Global, text: &[u8], place: usize) -> Result<Option<Mending>, AllocError>
-    ensures { IfOk result (IsUnknownMending text.now place) }
-{
-    if let Some(mending) = call_mending(alloc, text, place)? {
-        return Ok(Some(mending));
+/// Whether a fault of the text with a mending stands further on than that which was to be mended: bytes are looked at before tokens, and tokens
+/// before rules, each in the order of the text but the rules.
+fn is_further(moved: Move, before: TextFault, fault: TextFault) -> bool {
+    let (Some(place), Some(last)) = (place_of(fault), place_of(before)) else {
+        return false;
+    };
+    let own = origin(moved, place);
+    if stage_of(fault) != stage_of(before) {
+        stage_of(before) < stage_of(fault)
+    } else if stage_of(fault) == RULES {
+        own != last
+    } else {
+        last < own
     }
-    near_mending(alloc, text, place)
 }
 
-/// The mending of a keyword that stands alone at a place, as a call.
-fn call_mending(alloc: Global, text: &[u8], place: usize) -> Result<Option<Mending>, AllocError>
-    ensures { IfOk result (IsCallMending text.now place) }
-{
-    let found = look_around(alloc, text, place)?;
-    let site = found.site(text, place);
-    keyword_mending(alloc, &site, alone_there(&site))
+/// Rules are looked at last.
+const RULES: usize = 2;
+
+/// When a fault is looked for.
+fn stage_of(fault: TextFault) -> usize {
+    match fault {
+        TextFault::Scan(_) => 0,
+        TextFault::Parse(_) => 1,
+        _ => RULES,
+    }
 }
 
-/// The mending at a place where a token can't stand.
-fn unexpected_mending(
-    alloc: Global,
-    text: &[u8],
-    place: usize,
-) -> Result<Option<Mending>, AllocError>
-    ensures { IfOk result (IsUnexpectedMending text.now place) }
-{
-    let found = look_around(alloc, text, place)?;
-    token_mending(alloc, &found.site(text, place))
-}
-
-/// The same, with what is found around the place: that of a sign, else of a keyword, else of what is missing there or too much.
-fn token_mending(alloc: Global, site: &Site<'_, '_>) -> Result<Option<Mending>, AllocError>
-    ensures { IfOk result (IsTokenMending (scene_of site.now)) }
-{
-    if let Some(mending) = sign_mending(site.text, site.place) {
-        return Ok(Some(mending));
-    }
-    if let Some(mending) = keyword_mending(alloc, site, site.here())? {
-        return Ok(Some(mending));
-    }
-    if let Some(mending) = keyword_mending(alloc, site, site.last())? {
-        return Ok(Some(mending));
-    }
-    if let Some(mending) = keyword_mending(alloc, site, first_of_statement(site))? {
-        return Ok(Some(mending));
-    }
-    gap_mending(alloc, site)
-}
-
-/// The same, where no sign and no keyword is a slip: that of a mark, else of a keyword before a `:` or
-/// alone, else of a line.
-fn gap_mending(alloc: Global, site: &Site<'_, '_>) -> Result<Option<Mending>, AllocError>
-    ensures { IfOk result (IsGapMending (scene_of site.now)) }
-{
-    if let Some(mending) = mark_mending(alloc, site)? {
-        return Ok(Some(mending));
-    }
-    if let Some(mending) = colon_mending(site, site.last()) {
-        return Ok(Some(mending));
-    }
-    if let Some(mending) = alone_mending(alloc, site, alone_before(site))? {
-        return Ok(Some(mending));
-    }
-    Ok(line_mending(site, site.here()))
-}
-
-/// The mending at the place of a token, if a `;` is missing before it.
-fn line_mending(site: &Site<'_, '_>, token: Option<Token>) -> Option<Mending>
-    ensures { IsLineMending (scene_of site.now) token result }
-{
-    match token {
-        Some(token) if lacks_semicolon(site, token) => Some(Mending {
-            place: site.place,
-            meant: Meant::Semicolon,
-            taken: 0,
-            put: put(Meant::Semicolon).len(),
-        }),
+/// Where a fault stands, if it has a place.
+fn place_of(fault: TextFault) -> Option<usize> {
+    match fault {
+        TextFault::Scan(
+            ScanFault::StrayByte(place)
+            | ScanFault::NumberTooLarge(place)
+            | ScanFault::OpenComment(place)
+            | ScanFault::NameTooLong(place),
+        ) => Some(place),
+        TextFault::Parse(
+            ParseFault::Unexpected(place)
+            | ParseFault::TooDeep(place)
+            | ParseFault::NameDiffers(place),
+        ) => Some(place),
+        TextFault::Check(CheckFault::Broken(broken)) => Some(broken.place),
         _ => None,
     }
-}
-
-/// Whether a `;` is missing before the token at the place.
-fn lacks_semicolon(site: &Site<'_, '_>, token: Token) -> bool
-    ensures { result ≡ lacks_semicolon (scene_of site.now) token }
-{
-    let (before, _) = halves(site.text, site.place);
-    ends_line(before) && !is_misspelt(site.word_of(Some(token)), token.kind)
-}
-
-/// Whether a word, of a token of this kind, has several letters, all of them capital, and begins no part.
-fn is_misspelt(word: &[u8], kind: Kind) -> bool
-    ensures { result ≡ is_misspelt word.now kind }
-{
-    word.len() > 1 && are_capital(word) && !begins_part(kind)
-}
-
-/// Whether all letters are capital.
-fn are_capital(word: &[u8]) -> bool
-    ensures { result ≡ list_all is_ascii_uppercase word.now }
-{
-    word.iter().all(|byte| byte.is_ascii_uppercase())
-}
-
-/// Whether a `;` may be missing before a keyword.
-fn begins_part(kind: Kind) -> bool
-    ensures { result ≡ begins_part kind }
-{
-    matches!(
-        kind,
-        Kind::If
-            | Kind::While
-            | Kind::Repeat
-            | Kind::Const
-            | Kind::Type
-            | Kind::Var
-            | Kind::Procedure
-            | Kind::Begin
-            | Kind::End
-    )
-}
-
-/// Whether a fault of the text with a mending is another one than that which was to be mended.
-pub fn is_further(mending: Mending, fault: TextFault) -> bool
-    ensures { result ≡ is_further mending fault }
-{
-    match fault {
-        TextFault::Scan(ScanFault::StrayByte(place)) => is_off(mending, place),
-        TextFault::Scan(ScanFault::NumberTooLarge(place)) => is_off(mending, place),
-        TextFault::Scan(ScanFault::OpenComment(place)) => is_off(mending, place),
-        TextFault::Scan(ScanFault::NameTooLong(place)) => is_off(mending, place),
-        TextFault::Parse(ParseFault::Unexpected(place)) => is_off(mending, place),
-        TextFault::Parse(ParseFault::TooDeep(place)) => is_off(mending, place),
-        TextFault::Parse(ParseFault::NameDiffers(place)) => is_off(mending, place),
-        TextFault::Check(_) => true,
-        _ => false,
-    }
-}
-
-/// Whether a place of the text with a mending stands elsewhere than this.
-fn is_off(mending: Mending, place: usize) -> bool
-    ensures { result ≡ is_off mending place }
-{
-    origin(mending, place) != mending.place
 }

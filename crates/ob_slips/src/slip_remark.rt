@@ -1,12 +1,12 @@
 //! What is said of a fault of a module's text.
 
 ghost use Rattle.std.specs.Prelude.{IfOk, option_map};
-ghost use Rattle.ob_messages.specs.Remarks.{remark_of};
+ghost use Rattle.ob_explain_sentences.specs.Remarks.{remark_of};
 ghost use Rattle.ob_slips.specs.Remarks.{IsTextRemark};
 
 use ob_check::TextFault;
 use ob_diagnosis::module_remark::{check_remark, parse_remark, scan_remark};
-use ob_messages::remark::Remark;
+use ob_explain_sentences::remark::Remark;
 use std::alloc::{AllocError, Global};
 
 /// The remark on a fault of a module's text; `None` for want of memory.

@@ -1,187 +1,387 @@
-//! Words of other languages that are slips, and words that stand alone as a statement, where they are read as a call.
+//! Words of other languages that are slips, keywords in small letters or misspelt, and words that stand alone as a statement, where they are
+//! read as a call.
 
-ghost use Rattle.std.specs.Prelude.{◌≡◌, ◌↔◌, IsTrue, find, map, nat_lt, option_map};
-ghost use Rattle.ob_evidence.specs.Keywords.{IsNew};
-ghost use Rattle.ob_evidence.specs.Sites.{scene_of};
-ghost use Rattle.ob_slips.specs.Words.{IsForeignMending, alone_before, alone_there, ends_or_begins, foreign_of, foreigns, in_its_place, is_alone};
-ghost use Rattle.ob_slips.specs.Words.{is_before_colon, is_lone, lone, same_in};
-
-use crate::mending::{Meant, Mending, put};
-use crate::part::{ends_part, is_in_body};
+use crate::fix::{
+    AND_WORD, BOOLEAN, ELSIF_WORD, END_WORD, Fix, INTEGER, NOT_WORD, PROCEDURE_WORD, UNEQUAL_WORD,
+    WORD_BEFORE, changed, fixed, worded,
+};
+use crate::marks::length_of;
+use crate::part::{ENDS, is_in_body};
+use ob_diagnosis::keywords::{keyword_before, keyword_there};
+use ob_evidence::lone_names::lone_end;
 use ob_evidence::nearest_names::leads_to_statement;
-use ob_evidence::small_keywords::next_behind;
+use ob_evidence::small_keywords::{capitals, next_behind, small_keyword};
 use ob_evidence::text_site::{Site, is_kind, kind_or_name};
+use ob_explain_sentences::first_word::is_same_in_any_case;
+use ob_explain_sentences::kinds::sample;
+use ob_explain_tokens::open::open_construct;
 use ob_explain_words::declaring::declares;
-use ob_messages::first_word::is_same_in_any_case;
+use ob_mendings::capitals::small_words;
+use ob_mendings::mending::{Everywhere, Mending, Told};
 use ob_scan::{Kind, Token};
+use std::alloc::{AllocError, Global};
 
 /// A word of another language, in capitals or not, and what is meant by it.
 #[derive(Clone, Copy)]
-pub struct Foreign {
+struct Foreign {
     word: &'static [u8],
-    meant: Meant,
+    fix: Fix,
 }
 
 /// A table: in each row a word, and what is meant.
 macro_rules! words {
-    ($($word:expr => $meant:expr;)*) => {
-        &[$(Foreign { word: $word, meant: $meant }),*]
+    ($($word:expr => $fix:expr;)*) => {
+        &[$(Foreign { word: $word, fix: $fix }),*]
     };
 }
 
 /// The words that are known.
 const WORDS: &[Foreign] = words! {
-    b"AND" => Meant::AndWord;
-    b"NOT" => Meant::NotWord;
-    b"ELSEIF" => Meant::ElsifWord;
-    b"ELIF" => Meant::ElsifWord;
-    b"ENDIF" => Meant::EndWord;
-    b"ENDWHILE" => Meant::EndWord;
-    b"FI" => Meant::EndWord;
-    b"OD" => Meant::EndWord;
-    b"WEND" => Meant::EndWord;
+    b"AND" => AND_WORD;
+    b"NOT" => NOT_WORD;
+    b"ELSEIF" => ELSIF_WORD;
+    b"ELIF" => ELSIF_WORD;
+    b"XOR" => UNEQUAL_WORD;
+    b"ENDIF" => END_WORD;
+    b"ENDWHILE" => END_WORD;
+    b"ENDFOR" => END_WORD;
+    b"FI" => END_WORD;
+    b"OD" => END_WORD;
+    b"WEND" => END_WORD;
 };
+
+/// Words before the name of a procedure in other languages.
+const HEADINGS: &[Foreign] = words! {
+    b"FUNCTION" => PROCEDURE_WORD;
+    b"FUNC" => PROCEDURE_WORD;
+    b"PROC" => PROCEDURE_WORD;
+    b"VOID" => PROCEDURE_WORD;
+    b"DEF" => PROCEDURE_WORD;
+    b"SUB" => PROCEDURE_WORD;
+    b"FN" => PROCEDURE_WORD;
+    b"METHOD" => PROCEDURE_WORD;
+};
+
+/// Words before a name that is declared, in other languages or too much here.
+const PREFIXES: &[Foreign] = words! {
+    b"VAR" => WORD_BEFORE;
+    b"CONST" => WORD_BEFORE;
+    b"OUT" => WORD_BEFORE;
+    b"INOUT" => WORD_BEFORE;
+    b"REF" => WORD_BEFORE;
+    b"VAL" => WORD_BEFORE;
+    b"IN" => WORD_BEFORE;
+    b"LET" => WORD_BEFORE;
+    b"DIM" => WORD_BEFORE;
+};
+
+/// Types of other languages.
+const TYPES: &[Foreign] = words! {
+    b"INT" => INTEGER;
+    b"LONGINT" => INTEGER;
+    b"SHORTINT" => INTEGER;
+    b"CARDINAL" => INTEGER;
+    b"LONG" => INTEGER;
+    b"UINT" => INTEGER;
+    b"NUMBER" => INTEGER;
+    b"BOOL" => BOOLEAN;
+};
+
+/// Where one of these stands, it shows which constructs are open.
+const OPEN: &[Kind] = &[
+    Kind::End,
+    Kind::Else,
+    Kind::Elsif,
+    Kind::Until,
+    Kind::Const,
+    Kind::Type,
+    Kind::Var,
+    Kind::Procedure,
+    Kind::Begin,
+];
 
 /// Keywords that may stand alone, as a name that is a whole statement.
-const LONE: &[Foreign] = words! {
-    b"END" => Meant::Capitals;
-    b"ELSE" => Meant::Capitals;
-    b"THEN" => Meant::Capitals;
-    b"DO" => Meant::Capitals;
-    b"BEGIN" => Meant::Capitals;
-    b"REPEAT" => Meant::Capitals;
-};
+const LONE: [&[u8]; 6] = [b"END", b"ELSE", b"THEN", b"DO", b"BEGIN", b"REPEAT"];
 
-/// The mending of a name that is a word of another language.
-pub(crate) fn foreign_mending(site: &Site<'_, '_>, name: Token) -> Option<Mending>
-    ensures { IsForeignMending (scene_of site.now) name result }
-{
-    match first_same(known(), site.word_of(Some(name))) {
-        Some(word) if is_new(site, name) => Some(in_its_place(site, name, word.meant)),
-        _ => None,
+/// The mending of a token, if it is a keyword in small letters or a word of another language.
+pub(crate) fn keyword_mending(
+    alloc: Global,
+    site: &Site<'_, '_>,
+    token: Option<Token>,
+) -> Result<Option<Mending>, AllocError> {
+    let Some(name) = token else {
+        return Ok(None);
+    };
+    if small_keyword(alloc, site, name)?.is_some() {
+        return capital_mending(
+            alloc,
+            site,
+            name,
+            Told::Words("with the keyword in capitals"),
+        );
     }
-}
-
-fn known() -> &'static [Foreign]
-    ensures { map foreign_of result.now ≡ foreigns }
-{
-    WORDS
-}
-
-fn lone() -> &'static [Foreign]
-    ensures { map foreign_of result.now ≡ lone }
-{
-    LONE
-}
-
-/// The first of these that a word is.
-fn first_same(mut words: &[Foreign], word: &[u8]) -> Option<Foreign>
-    ensures { option_map foreign_of result ≡ same_in (map foreign_of words.entry.now) word.now }
-{
-    while let [foreign, rest @ ..] = words {
-        if is_same_in_any_case(word, foreign.word) {
-            return Some(*foreign);
+    match first_same(WORDS, site.word_of(Some(name))) {
+        Some(word) if is_new(site, name) => {
+            fixed(alloc, name.start, length_of(Some(name)), word.fix)
         }
-        words = rest;
+        _ => Ok(None),
     }
-    None
 }
 
-/// Whether a token is a name that the text does not declare.
-fn is_new(site: &Site<'_, '_>, name: Token) -> bool
-    ensures { IsTrue result ↔ IsNew (scene_of site.now) name }
-{
-    is_kind(Some(name), Kind::Ident) && !declares(site.text, site.tokens, site.word_of(Some(name)))
-}
-
-/// What is meant by a name, in its place.
-pub(crate) fn in_its_place(site: &Site<'_, '_>, name: Token, meant: Meant) -> Mending
-    ensures { result ≡ in_its_place (scene_of site.now) name meant }
-{
-    let length = site.word_of(Some(name)).len();
-    Mending {
+/// The mending of a keyword in small letters: of all of them, where there are several.
+fn capital_mending(
+    alloc: Global,
+    site: &Site<'_, '_>,
+    name: Token,
+    told: Told,
+) -> Result<Option<Mending>, AllocError> {
+    let small = small_words(alloc, site.text)?;
+    if small.len() > 1 && stands_among(&small, name) {
+        let all = "with the words of the language in capitals";
+        return Ok(Some(changed(alloc, site.place, Everywhere::Capitals, all)));
+    }
+    Ok(Some(Mending {
         place: name.start,
-        meant,
-        taken: length,
-        put: put(meant).len().max(length),
+        taken: length_of(Some(name)),
+        put: capitals(alloc, site.word_of(Some(name)))?,
+        everywhere: Everywhere::Nothing,
+        told,
+    }))
+}
+
+/// Whether a token is one of these.
+fn stands_among(tokens: &[Token], name: Token) -> bool {
+    for token in tokens {
+        if token.start == name.start {
+            return true;
+        }
+    }
+    false
+}
+
+/// The mending of a name at the place that is near to a keyword.
+pub(crate) fn misspelt_there(
+    alloc: Global,
+    site: &Site<'_, '_>,
+) -> Result<Option<Mending>, AllocError> {
+    keyword_put(alloc, site.here(), keyword_there(alloc, site)?)
+}
+
+/// The same of the name before it.
+pub(crate) fn misspelt_before(
+    alloc: Global,
+    site: &Site<'_, '_>,
+) -> Result<Option<Mending>, AllocError> {
+    keyword_put(alloc, site.last(), keyword_before(alloc, site)?)
+}
+
+/// The mending that puts a keyword in place of a name.
+fn keyword_put(
+    alloc: Global,
+    name: Option<Token>,
+    keyword: Option<Kind>,
+) -> Result<Option<Mending>, AllocError> {
+    let (Some(name), Some(keyword)) = (name, keyword) else {
+        return Ok(None);
+    };
+    let length = length_of(Some(name));
+    worded(
+        alloc,
+        name.start,
+        length,
+        sample(keyword).as_bytes(),
+        " written there",
+    )
+}
+
+/// The mending of the token before a `:`, if it is a keyword in small letters that may stand alone, in a body.
+pub(crate) fn colon_mending(
+    alloc: Global,
+    site: &Site<'_, '_>,
+) -> Result<Option<Mending>, AllocError> {
+    match site.last() {
+        Some(name)
+            if is_kind(site.here(), Kind::Colon)
+                && is_in_body(site.before)
+                && is_lone(site, name) => {
+            capital_mending(
+                alloc,
+                site,
+                name,
+                Told::Words("with the keyword in capitals"),
+            )
+        }
+        _ => Ok(None),
     }
 }
 
-/// Whether a token is a name, and but for small letters a keyword that may stand alone.
-fn is_lone(site: &Site<'_, '_>, token: Token) -> bool
-    ensures { result ≡ is_lone (scene_of site.now) token }
-{
-    is_kind(Some(token), Kind::Ident) && first_same(lone(), site.word_of(Some(token))).is_some()
+/// The mending of the nearest word before the place that stands alone, where what stands there tells which constructs are open; or of one that
+/// is meant to be END.
+pub(crate) fn alone_before(
+    alloc: Global,
+    site: &Site<'_, '_>,
+) -> Result<Option<Mending>, AllocError> {
+    if !is_kind(site.last(), Kind::End) && !OPEN.contains(&kind_or_name(site.here())) {
+        return Ok(None);
+    }
+    for token in site.before {
+        if is_alone(site, *token) {
+            let told = Told::Line("with the keyword of line ", " in capitals");
+            return capital_mending(alloc, site, *token, told);
+        }
+    }
+    match lone_end(site, open_construct(site.before)) {
+        Some(name) => Ok(Some(Mending {
+            place: name.start,
+            taken: length_of(Some(name)),
+            put: Vec::from_slice(alloc, b"END")?,
+            everywhere: Everywhere::Nothing,
+            told: Told::Line("with END in line ", ""),
+        })),
+        None => Ok(None),
+    }
 }
 
-/// Whether a token is such a name before a `:` at the place, in a body.
-pub(crate) fn is_before_colon(site: &Site<'_, '_>, token: Token) -> bool
-    ensures { result ≡ is_before_colon (scene_of site.now) token }
-{
-    is_kind(site.here(), Kind::Colon) && is_in_body(site.before) && is_lone(site, token)
-}
-
-/// The token at the place, if it stands alone.
-pub(crate) fn alone_there(site: &Site<'_, '_>) -> Option<Token>
-    ensures { result ≡ alone_there (scene_of site.now) }
-{
+/// The mending of the token at the place, if it stands alone.
+pub(crate) fn alone_there(
+    alloc: Global,
+    site: &Site<'_, '_>,
+) -> Result<Option<Mending>, AllocError> {
     match site.here() {
-        Some(token) if is_alone(site, token) => Some(token),
-        _ => None,
+        Some(token) if is_alone(site, token) => keyword_mending(alloc, site, Some(token)),
+        _ => Ok(None),
     }
 }
 
-/// The nearest word before the place that stands alone, where what stands there tells which constructs are open.
-pub(crate) fn alone_before(site: &Site<'_, '_>) -> Option<Token>
-    ensures { result ≡ alone_before (scene_of site.now) }
-{
-    if is_kind(site.last(), Kind::End) || ends_or_begins(kind_or_name(site.here())) {
-        nearest_alone(site)
+/// The mending of the word before a name, where that is the name of a procedure, or one that is declared.
+pub(crate) fn prefix_mending(
+    alloc: Global,
+    site: &Site<'_, '_>,
+) -> Result<Option<Mending>, AllocError> {
+    let (Some(name), Some(here)) = (site.last(), site.here()) else {
+        return Ok(None);
+    };
+    let word = site.word_of(Some(name));
+    if here.kind != Kind::Ident || is_in_body(site.before) || !is_new(site, name) {
+        return Ok(None);
+    }
+    if let Some(heading) = first_same(HEADINGS, word)
+        && type_meant(site.word()).is_none()
+    {
+        return fixed(alloc, name.start, length_of(Some(name)), heading.fix);
+    }
+    match first_same(PREFIXES, word) {
+        Some(prefix) if ends_name(site.next()) => fixed(
+            alloc,
+            name.start,
+            length_of(Some(name)),
+            prefix.fix,
+        ),
+        _ => Ok(None),
+    }
+}
+
+/// Whether a token stands behind a name in a list of names.
+fn ends_name(token: Option<Token>) -> bool {
+    matches!(
+        kind_or_name(token),
+        Kind::Colon | Kind::Comma | Kind::Semicolon | Kind::RightParen
+    )
+}
+
+/// The mending of a type before its name, as in `INTEGER x;`: the name, a `:` and the type.
+pub(crate) fn swapped_mending(
+    alloc: Global,
+    site: &Site<'_, '_>,
+) -> Result<Option<Mending>, AllocError> {
+    let (Some(last), Some(here)) = (site.last(), site.here()) else {
+        return Ok(None);
+    };
+    let Some(named) = type_meant(site.word_of(Some(last))) else {
+        return Ok(None);
+    };
+    let ends = is_kind(site.next(), Kind::Semicolon) || is_kind(site.next(), Kind::RightParen);
+    if here.kind != Kind::Ident || !ends || is_in_body(site.before) {
+        return Ok(None);
+    }
+    let mut put = Vec::from_slice(alloc, site.word())?;
+    put.extend_from_slice(b": ")?;
+    put.extend_from_slice(named)?;
+    let taken = here.end.saturating_sub(last.start);
+    worded(alloc, last.start, taken, &put, " in its place")
+}
+
+/// The type that a word is, or that is meant by it.
+fn type_meant(word: &[u8]) -> Option<&'static [u8]> {
+    if is_same_in_any_case(word, b"INTEGER") {
+        Some(b"INTEGER")
+    } else if is_same_in_any_case(word, b"BOOLEAN") || is_same_in_any_case(word, b"BOOL") {
+        Some(b"BOOLEAN")
+    } else if first_same(TYPES, word).is_some() {
+        Some(b"INTEGER")
     } else {
         None
     }
 }
 
-/// The nearest word before the place that stands alone.
-fn nearest_alone(site: &Site<'_, '_>) -> Option<Token>
-    ensures { result ≡ find (λ t. is_alone (scene_of site.now) t) site.now.before.now }
-{
-    site.before
-        .iter()
-        .copied()
-        .find(|token| is_alone(site, *token))
+/// The mending of a type of another language.
+pub(crate) fn type_mending(
+    alloc: Global,
+    site: &Site<'_, '_>,
+) -> Result<Option<Mending>, AllocError> {
+    match first_same(TYPES, site.word()) {
+        Some(word) if is_kind(site.last(), Kind::Colon) || is_kind(site.last(), Kind::Of) => {
+            fixed(alloc, site.place, length_of(site.here()), word.fix)
+        }
+        _ => Ok(None),
+    }
+}
+
+/// The first of these that a word is.
+fn first_same(words: &[Foreign], word: &[u8]) -> Option<Foreign> {
+    for foreign in words {
+        if is_same_in_any_case(word, foreign.word) {
+            return Some(*foreign);
+        }
+    }
+    None
+}
+
+/// Whether a token is a name that the text does not declare.
+fn is_new(site: &Site<'_, '_>, name: Token) -> bool {
+    is_kind(Some(name), Kind::Ident) && !declares(site.text, site.tokens, site.word_of(Some(name)))
+}
+
+/// Whether a token is a name, and but for small letters a keyword that may stand alone.
+fn is_lone(site: &Site<'_, '_>, token: Token) -> bool {
+    let word = site.word_of(Some(token));
+    for lone in &LONE {
+        if is_same_in_any_case(word, lone) {
+            return is_kind(Some(token), Kind::Ident);
+        }
+    }
+    false
 }
 
 /// Whether a token up to the place is such a name, and a whole statement.
-fn is_alone(site: &Site<'_, '_>, token: Token) -> bool
-    ensures { result ≡ is_alone (scene_of site.now) token }
-{
+fn is_alone(site: &Site<'_, '_>, token: Token) -> bool {
     is_lone(site, token)
+        && is_new(site, token)
         && ends_part(kind_or_name(next_behind(site.tokens, token.start)))
         && leads_to_statement(kind_or_name(last_before(site.before, token.start)))
 }
 
 /// The first of these tokens that begins before a place.
-fn last_before(tokens: &[Token], place: usize) -> Option<Token>
-    ensures { result ≡ find (λ u. nat_lt u.start place) tokens.now }
-{
-    tokens.iter().copied().find(|token| token.start < place)
+fn last_before(tokens: &[Token], place: usize) -> Option<Token> {
+    for token in tokens {
+        if token.start < place {
+            return Some(*token);
+        }
+    }
+    None
 }
 
-/// Whether a construct ends or a section begins with a keyword.
-fn ends_or_begins(kind: Kind) -> bool
-    ensures { result ≡ ends_or_begins kind }
-{
-    matches!(
-        kind,
-        Kind::End
-            | Kind::Else
-            | Kind::Elsif
-            | Kind::Until
-            | Kind::Const
-            | Kind::Type
-            | Kind::Var
-            | Kind::Procedure
-            | Kind::Begin
-    )
+/// Whether a part of a body ends before a token.
+fn ends_part(kind: Kind) -> bool {
+    ENDS.contains(&kind) || matches!(kind, Kind::Then | Kind::Do)
 }

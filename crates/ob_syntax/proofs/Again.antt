@@ -15,7 +15,7 @@ use Rattle.ob_scan.specs.Lexemes.{Lexeme, lexeme, IsSpelled, spelled, lexemes}
 use Rattle.ob_scan.proofs.Numerals.{AreDigits, numerals}
 use Rattle.ob_grammar.specs.Tree.{Module}
 use Rattle.ob_grammar.specs.Grammar.{Lexemes}
-use Rattle.ob_grammar.specs.Conditions.{KeepsConditions}
+use Rattle.ob_grammar.specs.EndNamesAndNesting.{KeepsConditions}
 use Rattle.ob_grammar.specs.Texts.{HasText}
 use Rattle.ob_syntax.specs.Printing.{Word, fixed, words_behind, printed}
 use Rattle.ob_syntax.specs.PrintedAgain.{LeadsTo}

@@ -5,7 +5,7 @@ use Rattle.std.specs.Option.{option_map_or}
 use Rattle.std.specs.Str.{bytes_eq}
 use Rattle.ob_grammar.specs.Tree.{Name, Expr, Number, Named, Parens, Not, Product, Sum, Comparison, Operands, no_operand, operand, Selectors, no_selector, field, index, TypeExpr, NamedType, Array, Record, FieldLists, no_list, empty_list, fields, Stmt, Empty, Assign, Call, If, While, Repeat, Stmts, no_stmt, stmt, Branches, no_branch, branch, Otherwise, no_else, else', DeclarationPart, Declarations, Declared, Procedures, no_procedure, procedure, Module}
 use Rattle.ob_grammar.specs.Limits.{deepest_nesting}
-use Rattle.ob_grammar.specs.Conditions.{Breach, name_differs, too_deep, opening, differing, in_expr, in_operands, in_selectors, in_type, in_fields, in_stmt, in_stmts, in_branches, in_otherwise, in_body, in_declarations, in_procedures, breaches, KeepsConditions}
+use Rattle.ob_grammar.specs.EndNamesAndNesting.{Breach, name_differs, too_deep, opening, differing, in_expr, in_operands, in_selectors, in_type, in_fields, in_stmt, in_stmts, in_branches, in_otherwise, in_body, in_declarations, in_procedures, breaches, KeepsConditions}
 use Rattle.ob_syntax.specs.Places.{bare_name, bare_expr, bare_operands, bare_selectors, bare_type, bare_fields, bare_stmt, bare_stmts, bare_branches, bare_otherwise, bare_const, bare_type_decl, bare_variables, bare_part, bare_section, bare_declarations, bare_procedures, bare}
 
 -- as many breaches

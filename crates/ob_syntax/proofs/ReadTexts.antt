@@ -15,7 +15,7 @@ use Rattle.ob_parser.specs.declared.parser.ParseFault.TheVariants as ParseFaults
 use Rattle.ob_syntax.specs.declared.tree_reader.ReadFault.TheVariants.{Scan, Parse}
 use Rattle.ob_grammar.specs.Tree.{Module}
 use Rattle.ob_grammar.specs.Grammar.{Lexemes, Derives}
-use Rattle.ob_grammar.specs.Conditions.{Breach, KeepsConditions, breaches}
+use Rattle.ob_grammar.specs.EndNamesAndNesting.{Breach, KeepsConditions, breaches}
 use Rattle.ob_parser.specs.ParseFaults.{lexemes_of, IsParseFault}
 use Rattle.ob_syntax.specs.PrintedAgain.{LeadsTo}
 use Rattle.ob_syntax.specs.ReadFaults.{IsWant, of_scan, of_parse}

@@ -9,7 +9,7 @@ use Rattle.wf_table.specs.declared.process.Label.{Label}
 use Rattle.wf_table.specs.declared.process.Registers.{Registers}
 use Rattle.wf_table.specs.declared.process.Sizes.{Sizes}
 use Rattle.wf_table.specs.Object.{State}
-use Rattle.wf_table.specs.Table.{Process, own_block, part}
+use Rattle.wf_table.specs.StepTable.{Process, own_block, part}
 
 -- what is said of 0 to n - 1, one behind the other
 abbrev pub over_each : (ℕ → List ℕ) → ℕ → List ℕ

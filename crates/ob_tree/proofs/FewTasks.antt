@@ -6,7 +6,7 @@ use Rattle.std.proofs.lemmas.List.Elements.{All-nil, All-cons, All-append, All-h
 use Rattle.ob_scan.specs.declared.token.Kind.{Kind}
 use Rattle.ob_code_scheme.specs.Temporaries.{largest}
 use Rattle.ob_code_correct.proofs.Typed.{Deeper, both_none, deeper, same_selectors}
-use Rattle.ob_grammar.specs.Conditions.{too_deep, opening, in_expr, in_operands, in_selectors, in_actuals, in_stmt, in_stmts, in_branches, in_otherwise, in_body, in_constants, in_types, in_variables, in_parameters, in_declarations, in_procedures, differing, KeepsConditions}
+use Rattle.ob_grammar.specs.EndNamesAndNesting.{too_deep, opening, in_expr, in_operands, in_selectors, in_actuals, in_stmt, in_stmts, in_branches, in_otherwise, in_body, in_constants, in_types, in_variables, in_parameters, in_declarations, in_procedures, differing, KeepsConditions}
 use Rattle.ob_grammar.specs.Grammar as Grammar
 use Rattle.ob_grammar.specs.Grammar.{Lexemes, Separated, Perhaps, BodyPart}
 use Rattle.ob_grammar.specs.Texts.{HasText}

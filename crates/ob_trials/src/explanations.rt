@@ -1,7 +1,7 @@
 //! Faults as they are shown to people.
 
 use ob_diagnosis::module_remark::{check_remark, parse_remark, scan_remark};
-use ob_messages::explanation::explanation;
+use ob_explain_sentences::explanation::explanation;
 use ob_parser::parser::ParseFault;
 use ob_scan::ScanFault;
 use ob_scopes::fault::broken;

@@ -12,7 +12,7 @@ use Rattle.wf_table.specs.declared.process.Sizes.{Sizes}
 use Rattle.wf_table.specs.declared.spent.Spent.{Spent}
 use Rattle.wf_table.specs.Meaning.{Meaning}
 use Rattle.wf_table.specs.Ranges.{IsInRange, IsShaped, IsSized, index_in}
-use Rattle.wf_table.specs.Table.{Process, block_words, load, own_block}
+use Rattle.wf_table.specs.StepTable.{Process, block_words, load, own_block}
 use Rattle.wf_records.specs.Spending.{outside_more}
 use Rattle.wf_object.specs.Blocks.{behind_loads, behind_saves}
 use Rattle.wf_object.specs.Quiet.{is_unmarked}

@@ -11,7 +11,7 @@ use Rattle.wf_table.specs.declared.process.Sizes.{Sizes}
 use Rattle.wf_table.specs.Labels.{at_next}
 use Rattle.wf_table.specs.Meaning.{Meaning}
 use Rattle.wf_table.specs.Law.{Effects, IsLawful}
-use Rattle.wf_table.specs.Table.{Process, cell_after, row}
+use Rattle.wf_table.specs.StepTable.{Process, cell_after, row}
 use Rattle.wf_table.specs.Object.{State, event_at, noted, step_by, step_of}
 use Rattle.wf_table.specs.Schedule.{counted}
 use Rattle.wf_table.proofs.Stuck.{set_same}

@@ -6,7 +6,7 @@ use Rattle.ob_interface.specs.Call.{ObjectCall}
 use Rattle.wf_table.specs.declared.process.Sizes.{Sizes}
 use Rattle.wf_table.specs.Meaning.{Meaning}
 use Rattle.wf_table.specs.Law.{Effects, IsLawful}
-use Rattle.wf_table.specs.Table.{Process}
+use Rattle.wf_table.specs.StepTable.{Process}
 use Rattle.wf_table.specs.Object.{State, step_by}
 use Rattle.wf_table.specs.declared.spent.Spent.{Spent}
 use Rattle.wf_table.specs.Spent.{unspent, spent_after}

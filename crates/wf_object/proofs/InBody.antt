@@ -13,7 +13,7 @@ use Rattle.wf_table.specs.declared.schedule.Turns.{Turns}
 use Rattle.wf_table.specs.Meaning.{Meaning, Turned, after_turn, steps}
 use Rattle.wf_table.specs.Law.{Effects, IsLawful}
 use Rattle.wf_table.specs.Schedule.{counted}
-use Rattle.wf_table.specs.Table.{Process, after_body, cell_after, own_block, row}
+use Rattle.wf_table.specs.StepTable.{Process, after_body, cell_after, own_block, row}
 use Rattle.wf_table.specs.Object.{State, event_at, label_by, label_of, noted, step_by, step_of}
 use Rattle.wf_table.proofs.Stuck.{set_same}
 use Rattle.wf_table.specs.declared.spent.Spent.{Spent}

@@ -8,7 +8,7 @@ use Rattle.ob_interface.specs.Call.{ObjectCall}
 use Rattle.wf_table.specs.declared.process.Sizes.{Sizes}
 use Rattle.wf_table.specs.Meaning.{Meaning}
 use Rattle.wf_table.specs.Law.{Effects, IsLawful}
-use Rattle.wf_table.specs.Table.{Process}
+use Rattle.wf_table.specs.StepTable.{Process}
 use Rattle.wf_table.specs.Object.{State, stepped}
 use Rattle.wf_table.specs.Each.{Each}
 use Rattle.wf_table.specs.Ranges.{IsSized}
@@ -17,7 +17,7 @@ use Rattle.wf_table.proofs.Frame.{each_after}
 use Rattle.wf_table.proofs.KeepsSound.{keeps_sound}
 use Rattle.wf_table.proofs.StartSound.{start_sound}
 use Rattle.wf_table.proofs.SubmitSound.{submit_sound}
-use Rattle.wf_table.proofs.CommitsRuns.{founded, start_committed, submit_committed, step_committed}
+use Rattle.wf_table.proofs.HelpAndOrderRuns.{founded, start_committed, submit_committed, step_committed}
 use Rattle.wf_table.specs.declared.spent.Spent.{Spent}
 use Rattle.wf_table.specs.Spent.{unspent, spent_after}
 use Rattle.wf_table.specs.Bound.{StaysWithin}

@@ -10,7 +10,7 @@ use Rattle.wf_history.specs.History.{Event, Applied}
 use Rattle.wf_table.specs.declared.process.Label.TheVariants.{Commit}
 use Rattle.wf_table.specs.declared.process.Sizes.{Sizes}
 use Rattle.wf_table.specs.Meaning.{Meaning}
-use Rattle.wf_table.specs.Table.{Process, cell_after, row}
+use Rattle.wf_table.specs.StepTable.{Process, cell_after, row}
 use Rattle.wf_table.specs.declared.process.Label.{Label}
 use Rattle.wf_table.specs.declared.spent.Spent.{Spent}
 use Rattle.wf_table.specs.Spent.{spent_after, has_more}

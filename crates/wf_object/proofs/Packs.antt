@@ -7,7 +7,7 @@ use Rattle.ll_cell.specs.Cell.{Cell}
 use Rattle.ll_cell.specs.declared.form.Form.{Form}
 use Rattle.wf_table.specs.declared.process.Sizes.{Sizes}
 use Rattle.wf_table.specs.Meaning.{Meaning}
-use Rattle.wf_table.specs.Table.{Process, inverted, toggle_in, own_block, block_words, kept_word}
+use Rattle.wf_table.specs.StepTable.{Process, inverted, toggle_in, own_block, block_words, kept_word}
 use Rattle.wf_table.specs.Labels.{at_store}
 use Rattle.wf_object.specs.Packed.{packed}
 use Rattle.wf_table.specs.Toggles.{IsBit, StoresBit}

@@ -17,7 +17,7 @@ use Rattle.wf_table.specs.Law.{Effects, IsLawful}
 use Rattle.wf_table.specs.Ranges.{IsInRange, IsShaped, IsSized}
 use Rattle.wf_table.specs.Schedule.{counted}
 use Rattle.wf_table.specs.Scripts.{CallsFit}
-use Rattle.wf_table.specs.Table.{Process, cell_after, load, row, store}
+use Rattle.wf_table.specs.StepTable.{Process, cell_after, load, row, store}
 use Rattle.wf_table.specs.Toggles.{StoresBit}
 use Rattle.wf_table.specs.Object.{Records, State, event_at, label_by, label_of, noted, step_by, step_of, stepped}
 use Rattle.wf_table.proofs.Stuck.{set_same}

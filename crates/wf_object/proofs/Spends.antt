@@ -11,7 +11,7 @@ use Rattle.wf_table.specs.declared.process.Sizes.{Sizes}
 use Rattle.wf_table.specs.declared.schedule.Turns.{Turns}
 use Rattle.wf_table.specs.Schedule.{steps_of, counted, AreTurns}
 use Rattle.wf_table.specs.Meaning.{Meaning}
-use Rattle.wf_table.specs.Table.{Process, row}
+use Rattle.wf_table.specs.StepTable.{Process, row}
 use Rattle.wf_table.specs.Object.{State}
 use Rattle.wf_table.specs.Each.{Each}
 use Rattle.wf_table.specs.Ranges.{IsSized, IsInRange}

@@ -10,7 +10,7 @@ use Rattle.wf_table.specs.declared.process.Label.TheVariants.{Body}
 use Rattle.wf_table.specs.declared.process.Sizes.{Sizes}
 use Rattle.wf_table.specs.Meaning.{Meaning}
 use Rattle.wf_table.specs.Law.{Effects, IsLawful}
-use Rattle.wf_table.specs.Table.{Process, own_block}
+use Rattle.wf_table.specs.StepTable.{Process, own_block}
 use Rattle.wf_table.specs.Object.{State}
 use Rattle.wf_table.specs.declared.spent.Spent.{Spent}
 use Rattle.wf_table.specs.Counted.{spent_of}

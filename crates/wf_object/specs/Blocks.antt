@@ -3,7 +3,7 @@ use Rattle.std.specs.Prelude.{ℕ, ◌+◌, ◌-◌, nat_eq, if◌then◌else◌
 use Rattle.ll_cell.specs.Cell.{Cell, block_of, copied, word_at}
 use Rattle.wf_table.specs.declared.process.Label.TheVariants.{Enter}
 use Rattle.wf_table.specs.declared.process.Sizes.{Sizes}
-use Rattle.wf_table.specs.Table.{Process, own_block}
+use Rattle.wf_table.specs.StepTable.{Process, own_block}
 
 module _ {Run : Type 0} where
   -- a process at LOAD, behind LOAD and STORE of so many words: at LOAD of the next one, with the last one at hand

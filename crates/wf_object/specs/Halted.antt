@@ -1,7 +1,7 @@
 -- Processes that have nothing left to do.
 use Rattle.std.specs.Prelude.{ℕ, Bool, true, ◌&&◌, not, Option, Some, None, slice_get}
 use Rattle.wf_table.specs.Labels.{at_next}
-use Rattle.wf_table.specs.Table.{Process}
+use Rattle.wf_table.specs.StepTable.{Process}
 use Rattle.wf_table.specs.Object.{State}
 use Rattle.wf_table.specs.Spent.{has_more}
 

@@ -3,7 +3,7 @@ use Rattle.std.specs.Prelude.{ℕ, take}
 use Rattle.ll_cell.specs.Cell.{Cell, refill_own}
 use Rattle.wf_table.specs.declared.process.Sizes.{Sizes}
 use Rattle.wf_table.specs.Meaning.{Meaning, Turned, steps}
-use Rattle.wf_table.specs.Table.{Process, after_body, own_block}
+use Rattle.wf_table.specs.StepTable.{Process, after_body, own_block}
 
 module _ {Run : Type 0} (m : Meaning Run) (z : Sizes) (c : Cell) (p : ℕ) (q : Process Run) where
   -- where the body of process p, which stands at q, stands behind so many steps on the variables of p's own block

@@ -6,7 +6,7 @@ use Rattle.ob_interface.specs.Call.{ObjectCall}
 use Rattle.wf_table.specs.declared.process.Sizes.{Sizes}
 use Rattle.wf_table.specs.Meaning.{Meaning}
 use Rattle.wf_table.specs.Object.{Records, State}
-use Rattle.wf_table.specs.Table.{Process}
+use Rattle.wf_table.specs.StepTable.{Process}
 use Rattle.wf_table.specs.Schedule.{steps_of}
 use Rattle.wf_table.specs.Each.{Each}
 use Rattle.wf_table.specs.Sound.{IsSound}
@@ -14,7 +14,7 @@ use Rattle.wf_table.specs.declared.spent.Spent.{Spent}
 use Rattle.wf_table.specs.Spent.{unspent}
 use Rattle.wf_table.specs.Counted.{EachCounts, spent_of}
 use Rattle.wf_table.specs.Bound.{StaysWithin}
-use Rattle.wf_table.specs.Commits.{IsCommitted}
+use Rattle.wf_table.specs.HelpAndOrder.{IsCommitted}
 use Rattle.wf_table.specs.Helps.{IsHelped}
 use Rattle.wf_table.specs.Stands.{IsStanding}
 use Rattle.wf_table.specs.Answers.{AreAnswered}

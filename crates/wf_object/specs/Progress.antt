@@ -6,7 +6,7 @@ use Rattle.ob_interface.specs.Call.{ObjectCall}
 use Rattle.wf_table.specs.declared.process.Sizes.{Sizes}
 use Rattle.wf_table.specs.Meaning.{Meaning}
 use Rattle.wf_table.specs.Object.{State}
-use Rattle.wf_table.specs.Table.{Process, cell_after, row}
+use Rattle.wf_table.specs.StepTable.{Process, cell_after, row}
 use Rattle.wf_table.specs.declared.spent.Spent.{Spent}
 use Rattle.wf_table.specs.Spent.{has_more, spent_after}
 use Rattle.wf_table.specs.Counted.{spent_of}

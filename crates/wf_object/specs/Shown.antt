@@ -1,7 +1,7 @@
 -- What a step that shows something takes, and what it leaves.
 use Rattle.std.specs.Prelude.{List, Option, Some, None}
 use Rattle.ll_cell.specs.Cell.{Cell}
-use Rattle.wf_table.specs.Table.{Process}
+use Rattle.wf_table.specs.StepTable.{Process}
 use Rattle.wf_table.specs.Object.{State, Records}
 use Rattle.wf_table.specs.declared.spent.Spent.{Spent}
 use Rattle.wf_table.specs.Spent.{has_more, spent_after}

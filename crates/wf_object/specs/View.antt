@@ -10,7 +10,7 @@ use Rattle.wf_table.specs.declared.process.Sizes.{Sizes}
 use Rattle.wf_table.specs.declared.process.Label.{Label}
 use Rattle.wf_table.specs.declared.process.Registers.{Registers}
 use Rattle.wf_table.specs.Object.{Records, State, Answer, GoesOn, Begins, Replies, Halts}
-use Rattle.wf_table.specs.Table.{Process}
+use Rattle.wf_table.specs.StepTable.{Process}
 use Rattle.wf_table.specs.declared.spent.Spent.{Spent}
 
 -- an engine, the numbers of the object, the block that it began with, where it stands, and what each process has spent

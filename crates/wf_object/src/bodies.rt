@@ -7,7 +7,7 @@ ghost use Rattle.wf_object.specs.Packed.{packed};
 ghost use Rattle.wf_table.specs.declared.engine_turn.EngineTurn.TheVariants as Turn;
 ghost use Rattle.wf_table.specs.Meaning.{steps};
 ghost use Rattle.wf_table.specs.Ranges.{IsShaped};
-ghost use Rattle.wf_table.specs.Table.{own_block};
+ghost use Rattle.wf_table.specs.StepTable.{own_block};
 
 use crate::engine::Engine;
 use crate::process::Process;

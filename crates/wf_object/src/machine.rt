@@ -57,7 +57,7 @@ impl<E: Engine> Machine<E> {
     ghost use Rattle.wf_object.specs.Halted.{is_halted};
     ghost use Rattle.wf_table.specs.Start.{IsStart, sizes_of};
     ghost use Rattle.wf_table.specs.Sound.{IsSound};
-    ghost use Rattle.wf_table.specs.Commits.{IsCommitted};
+    ghost use Rattle.wf_table.specs.HelpAndOrder.{IsCommitted};
     ghost use Rattle.wf_table.specs.Helps.{IsHelped};
     ghost use Rattle.wf_table.specs.Stands.{IsStanding};
     ghost use Rattle.wf_table.specs.Answers.{AreAnswered};

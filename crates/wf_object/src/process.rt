@@ -25,7 +25,7 @@ pub struct Process<R> {
 
 impl<R> Model for Process<R> {
     ghost use Rattle.wf_object.specs.View.{process_view};
-    ghost use Rattle.wf_table.specs.Table as table;
+    ghost use Rattle.wf_table.specs.StepTable as table;
 
     ghost Value = { table.Process R };
 

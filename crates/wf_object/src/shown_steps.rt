@@ -5,7 +5,7 @@ ghost use Rattle.std.specs.Ordering.{int_eq};
 ghost use Rattle.ll_cell.specs.Cell.{block_of, own_of};
 ghost use Rattle.wf_table.specs.declared.process.Label.TheVariants as At;
 ghost use Rattle.wf_table.specs.Each.{Each};
-ghost use Rattle.wf_table.specs.Table.{own_block, toggle_in, next, give};
+ghost use Rattle.wf_table.specs.StepTable.{own_block, toggle_in, next, give};
 ghost use Rattle.wf_table.specs.Ranges.{IsSized, IsShaped, IsInRange};
 ghost use Rattle.wf_table.specs.Scripts.{CallsFit};
 ghost use Rattle.wf_table.specs.Object.{ended, began, applied, applied_ids, begun_of, history_after, noted, answer_by, answer_of, label_by, seen_of, step_of};

@@ -1,9 +1,9 @@
 //! The rows of the table, one function each. Each changes the cell in at most one way, and the record of its process.
 
 ghost use Rattle.std.specs.Prelude.{◌≡◌, ◌+◌, ◌*◌, ◌<◌, ◌≤◌, length, true};
-ghost use Rattle.wf_table.specs.Table.{mine, fetch, save, enter, undo, keep, commit, kept_word, row, or_past, part, cell_after, post, flip, try};
-ghost use Rattle.wf_table.specs.Table.{links, load, store, check, seen, read, take_reply, after_body, body_step, toggle_in, own_block, block_words};
-ghost use Rattle.wf_table.specs.Table.{inverted};
+ghost use Rattle.wf_table.specs.StepTable.{mine, fetch, save, enter, undo, keep, commit, kept_word, row, or_past, part, cell_after, post, flip, try};
+ghost use Rattle.wf_table.specs.StepTable.{links, load, store, check, seen, read, take_reply, after_body, body_step, toggle_in, own_block, block_words};
+ghost use Rattle.wf_table.specs.StepTable.{inverted};
 ghost use Rattle.wf_table.specs.Ranges.{IsSized, IsShaped, IsInRange};
 ghost use Rattle.wf_table.specs.Toggles.{StoresBit};
 ghost use Rattle.wf_object.specs.Packed.{packed};

@@ -10,7 +10,7 @@ use Rattle.wf_table.specs.Meaning.{Meaning}
 use Rattle.wf_table.specs.Object.{State, script_of}
 use Rattle.wf_table.specs.Runs.{Act, IsRun, run, turns}
 use Rattle.wf_table.specs.Start.{sizes_of}
-use Rattle.wf_table.specs.Table.{Process}
+use Rattle.wf_table.specs.StepTable.{Process}
 use Rattle.wf_table.specs.Bound.{bound}
 use Rattle.wf_table.specs.Calls.{BeginsOne, own_spent}
 use Rattle.wf_table.specs.Ends.{AllEndWithin}

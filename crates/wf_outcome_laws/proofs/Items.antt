@@ -15,7 +15,7 @@ use Rattle.wf_table.specs.Meaning.{Meaning}
 use Rattle.wf_table.specs.Object.{State, answer_by, answer_of, applied_ids, begun_of, event_at, label_by, seen_by}
 use Rattle.wf_table.specs.Runs.{Act}
 use Rattle.wf_table.specs.Start.{sizes_of}
-use Rattle.wf_table.specs.Table.{Process, call_at, own_block}
+use Rattle.wf_table.specs.StepTable.{Process, call_at, own_block}
 use Rattle.wf_table.specs.Spent.{has_more}
 use Rattle.wf_object.specs.Halted.{is_halted, is_halted_by}
 use Rattle.wf_play.specs.ItemSteps.{IsAtEnd, IsReply, StandsFor}

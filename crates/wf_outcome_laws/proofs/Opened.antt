@@ -11,7 +11,7 @@ use Rattle.wf_table.specs.declared.process.Sizes.{Sizes}
 use Rattle.wf_table.specs.Labels.{at_next}
 use Rattle.wf_table.specs.Meaning.{Meaning}
 use Rattle.wf_table.specs.Object.{State, event_at, noted, step_by, step_of}
-use Rattle.wf_table.specs.Table.{Process, call_at, cell_after, open_call, row}
+use Rattle.wf_table.specs.StepTable.{Process, call_at, cell_after, open_call, row}
 use Rattle.wf_table.proofs.Moves.{same_begun, same_calls}
 use Rattle.wf_table.specs.Spent.{has_more}
 use Rattle.wf_table.proofs.BoundPlaces.{put_at}

@@ -14,7 +14,7 @@ use Rattle.wf_table.specs.declared.process.Sizes.{Sizes}
 use Rattle.wf_table.specs.Labels.{at_next}
 use Rattle.wf_table.specs.Meaning.{Meaning}
 use Rattle.wf_table.specs.Object.{event_at, history_after, applied_ids, begun_of}
-use Rattle.wf_table.specs.Table.{Process, row, after_body, body_turn, own_block, to}
+use Rattle.wf_table.specs.StepTable.{Process, row, after_body, body_turn, own_block, to}
 
 abbrev pub Events : Type 0
 Events = List (Event ObjectCall Reply)

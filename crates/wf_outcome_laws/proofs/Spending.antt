@@ -11,7 +11,7 @@ use Rattle.wf_table.specs.Meaning.{Meaning}
 use Rattle.wf_table.specs.Object.{State, script_by, script_of, step_by, step_of}
 use Rattle.wf_table.specs.Runs.{Act, Steps, ActsFit, IsRun, act_of, run, turns}
 use Rattle.wf_table.specs.Start.{sizes_of}
-use Rattle.wf_table.specs.Table.{Process, row}
+use Rattle.wf_table.specs.StepTable.{Process, row}
 use Rattle.wf_table.proofs.Moves.{same_calls}
 use Rattle.wf_table.specs.declared.spent.Spent.{Spent}
 use Rattle.wf_table.specs.Calls.{own_act, own_spent, spends}

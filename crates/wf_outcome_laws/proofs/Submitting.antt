@@ -5,7 +5,7 @@ use Rattle.std.proofs.lemmas.List.{length-replicate}
 use Rattle.std.proofs.lemmas.Option.{same_Some, get_or_from_slice_get, slice_get_within}
 use Rattle.ob_interface.specs.Call.{ObjectCall}
 use Rattle.wf_history.specs.History.{Begin}
-use Rattle.wf_table.proofs.CommitsSteps.{member}
+use Rattle.wf_table.proofs.HelpAndOrderSteps.{member}
 use Rattle.wf_outcomes.specs.Merges.{start}
 use Rattle.wf_table.specs.declared.process.Label.TheVariants.{Next}
 use Rattle.wf_table.specs.declared.process.Sizes.{Sizes}
@@ -16,7 +16,7 @@ use Rattle.wf_table.specs.Object.{Records, State, script_of, submit_by, submit_o
 use Rattle.wf_table.specs.Runs.{IsRun, run, submissions}
 use Rattle.wf_table.specs.Scripts.{CallsFit}
 use Rattle.wf_table.specs.Start.{sizes_of}
-use Rattle.wf_table.specs.Table.{Process}
+use Rattle.wf_table.specs.StepTable.{Process}
 use Rattle.wf_table.proofs.Frame.{each_after}
 use Rattle.wf_table.specs.Ends.{AllEndWithin}
 use Rattle.wf_outcome_laws.specs.Shown.{scripts_in}

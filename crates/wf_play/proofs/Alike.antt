@@ -20,7 +20,7 @@ use Rattle.wf_table.specs.Each.{Each}
 use Rattle.wf_table.specs.Start.{IsIdle, IsStart}
 use Rattle.wf_object.specs.Halted.{is_halted, is_halted_by}
 use Rattle.wf_play.specs.LockStep.{AreInLockStep}
-use Rattle.wf_table.specs.Table.{Own, Process, Refill, after_body, at, body_turn, call_at, cell_after, inverted, open_call, own_block, part, row, toggle_in}
+use Rattle.wf_table.specs.StepTable.{Own, Process, Refill, after_body, at, body_turn, call_at, cell_after, inverted, open_call, own_block, part, row, toggle_in}
 
 -- the run is read at the label, or at a later one before ENTER sets it
 abbrev pub reads_run : Label → Bool

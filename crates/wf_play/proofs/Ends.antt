@@ -22,7 +22,7 @@ use Rattle.wf_table.specs.Meaning.{Meaning}
 use Rattle.wf_table.specs.declared.spent.Spent.{Spent}
 use Rattle.wf_table.specs.Spent.{has_more}
 use Rattle.wf_table.specs.Labels.{at_next}
-use Rattle.wf_table.specs.Table.{Process}
+use Rattle.wf_table.specs.StepTable.{Process}
 use Rattle.wf_table.specs.Object.{Answer, GoesOn, Begins, Replies, Halts, State, answer_by, answer_of, event_at, label_by, label_of, seen_by, step_of}
 use Rattle.wf_table.specs.Schedule.{steps_of}
 

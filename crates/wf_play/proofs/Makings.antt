@@ -23,7 +23,7 @@ use Rattle.wf_table.specs.Meaning.{Meaning}
 use Rattle.wf_table.specs.Object.{Records, State, event_at, history_after, label_by, label_of, step_by, step_of}
 use Rattle.wf_table.specs.Runs.{run, submissions, turns}
 use Rattle.wf_table.specs.Schedule.{steps_of}
-use Rattle.wf_table.specs.Table.{Process}
+use Rattle.wf_table.specs.StepTable.{Process}
 
 -- a step shows one event at most
 one_event : (h : List (Event ObjectCall Reply)) (e : Option (Event ObjectCall Reply)) → (length (history_after h e) ≡ length h) ⊎ (length (history_after h e) ≡ length h + 1)

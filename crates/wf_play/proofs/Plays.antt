@@ -22,7 +22,7 @@ use Rattle.wf_table.specs.Object.{State, submit_by, submit_of}
 use Rattle.wf_table.specs.Runs.{ActsFit, run, submissions, turns}
 use Rattle.wf_table.specs.Schedule.{steps_of}
 use Rattle.wf_table.specs.Start.{IsStart, sizes_of}
-use Rattle.wf_table.specs.Table.{Process}
+use Rattle.wf_table.specs.StepTable.{Process}
 
 module _ {Run : Type 0} (m : Meaning Run) (z : Sizes) where
   -- one more call is submitted

@@ -17,15 +17,15 @@ use Rattle.wf_table.specs.declared.process.Label.{Label}
 use Rattle.wf_table.specs.declared.process.Label.TheVariants.{Next, Commit, Give}
 use Rattle.wf_table.specs.declared.process.Sizes.{Sizes}
 use Rattle.wf_table.specs.Meaning.{Meaning, body}
-use Rattle.wf_table.specs.Table.{Process, open_call, call_at}
+use Rattle.wf_table.specs.StepTable.{Process, open_call, call_at}
 use Rattle.wf_table.specs.Object.{Records, event_at, history_after, order_after}
 use Rattle.wf_table.specs.Labels.{unannounced}
 use Rattle.wf_table.proofs.Words.{same_words}
 use Rattle.wf_table.specs.Order.{IsAt, applied_count}
-use Rattle.wf_table.specs.Commits.{flips_at, announced_call, IsFounded, IsHelpful, IsOrdered}
+use Rattle.wf_table.specs.HelpAndOrder.{flips_at, announced_call, IsFounded, IsHelpful, IsOrdered}
 use Rattle.wf_table.proofs.Applied.{new_ids}
 use Rattle.wf_table.proofs.Numbers.{order_below}
-use Rattle.wf_table.proofs.CommitsSteps.{flips_is}
+use Rattle.wf_table.proofs.HelpAndOrderSteps.{flips_is}
 use Rattle.wf_table.specs.HelpAlone.{Alone, replied}
 use Rattle.wf_table.specs.Contents.{no_words, reply_word, RootHolds}
 use Rattle.wf_table.proofs.HelpOrders.{more_made, length_answers, begun_more, same_end}

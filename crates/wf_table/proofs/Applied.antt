@@ -10,15 +10,15 @@ use Rattle.wf_history.specs.declared.event.CallId.{CallId}
 use Rattle.wf_history.specs.History.{Applied}
 use Rattle.wf_table.specs.declared.process.Label.TheVariants.{Commit, Read}
 use Rattle.wf_table.specs.declared.process.Sizes.{Sizes}
-use Rattle.wf_table.specs.Table.{Process, own_block, toggle_in, to}
+use Rattle.wf_table.specs.StepTable.{Process, own_block, toggle_in, to}
 use Rattle.wf_table.specs.Object.{Records, noted, applied_ids, begun_of}
 use Rattle.wf_table.specs.Toggles.{flips}
 use Rattle.wf_table.specs.Labels.{unannounced}
 use Rattle.wf_table.proofs.Changes.{IsExchanged}
-use Rattle.wf_table.specs.Commits.{flips_at, standing, own_toggles, IsFounded}
+use Rattle.wf_table.specs.HelpAndOrder.{flips_at, standing, own_toggles, IsFounded}
 use Rattle.wf_table.specs.Order.{own_numbers}
-use Rattle.wf_table.proofs.CommitsIds.{applied_more, own_numbers-ids, not_true}
-use Rattle.wf_table.proofs.CommitsSteps.{flips_other, flips_own, flips_is}
+use Rattle.wf_table.proofs.HelpAndOrderIds.{applied_more, own_numbers-ids, not_true}
+use Rattle.wf_table.proofs.HelpAndOrderSteps.{flips_other, flips_own, flips_is}
 
 read_flips : {Run : Type 0} (q : Process Run) → q.label ≡ Commit → flips (to Read q) ≡ flips q
 read_flips q is = let k = ap unannounced is in grind (arith, nat_tests, k)

@@ -7,7 +7,7 @@ use Rattle.std.proofs.lemmas.Bool.Decides.{Decides-int_eq}
 use Rattle.std.proofs.lemmas.List.{get_or-set_same, get_or-set_other, take-set-le}
 use Rattle.ll_cell.specs.Cell.{refilled}
 use Rattle.wf_table.specs.declared.process.Sizes.{Sizes}
-use Rattle.wf_table.specs.Table.{part, toggle_place, toggle_in, inverted}
+use Rattle.wf_table.specs.StepTable.{part, toggle_place, toggle_in, inverted}
 use Rattle.wf_table.proofs.Words.{at_toggle, refilled_behind}
 use Rattle.wf_table.specs.Contents.{reply_word}
 

@@ -8,7 +8,7 @@ use Rattle.wf_table.specs.declared.process.Sizes.{Sizes}
 use Rattle.wf_table.specs.declared.engine_turn.EngineTurn.{EngineTurn}
 use Rattle.wf_table.specs.declared.engine_turn.EngineTurn.TheVariants.{On, Returned, Trapped, Stuck}
 use Rattle.wf_table.specs.Meaning.{Meaning}
-use Rattle.wf_table.specs.Table.{Process, call_at, row, to, after_body, body_turn}
+use Rattle.wf_table.specs.StepTable.{Process, call_at, row, to, after_body, body_turn}
 use Rattle.wf_table.specs.Ranges.{IsInRange}
 use Rattle.wf_table.specs.declared.spent.Spent.{Spent}
 use Rattle.wf_table.specs.Spent.{spent_after, has_more}

@@ -13,7 +13,7 @@ use Rattle.wf_table.specs.declared.process.Label.{Label}
 use Rattle.wf_table.specs.declared.process.Label.TheVariants.{Next, Post, Body}
 use Rattle.wf_table.specs.declared.process.Sizes.{Sizes}
 use Rattle.wf_table.specs.Meaning.{Meaning}
-use Rattle.wf_table.specs.Table.{Process, call_at, row, to, after_body, body_turn}
+use Rattle.wf_table.specs.StepTable.{Process, call_at, row, to, after_body, body_turn}
 use Rattle.wf_table.specs.Object.{State, step_by, submit_by}
 use Rattle.wf_table.specs.Runs.{Act, Steps, Submits, act_of, run}
 use Rattle.wf_table.specs.declared.spent.Spent.{Spent}

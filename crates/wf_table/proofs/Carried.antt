@@ -6,10 +6,10 @@ use Rattle.ll_cell.specs.Cell.{word_at}
 use Rattle.wf_table.specs.declared.process.Label.{Label}
 use Rattle.wf_table.specs.declared.process.Label.TheVariants.{Store, Take, Give}
 use Rattle.wf_table.specs.declared.process.Sizes.{Sizes}
-use Rattle.wf_table.specs.Table.{Process, part}
+use Rattle.wf_table.specs.StepTable.{Process, part}
 use Rattle.wf_table.specs.Labels.{copying, at_store, taking}
 use Rattle.wf_table.specs.Helping.{Serving, has_copied}
-use Rattle.wf_table.specs.Commits.{phase}
+use Rattle.wf_table.specs.HelpAndOrder.{phase}
 use Rattle.wf_table.specs.Stands.{InPart, words_taken, Carries}
 use Rattle.wf_table.proofs.StandingPlaces.{place_in}
 

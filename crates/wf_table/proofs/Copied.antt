@@ -8,7 +8,7 @@ use Rattle.wf_table.specs.declared.process.Label.{Label}
 use Rattle.wf_table.specs.declared.process.Label.TheVariants.{Check1, Mine, Try}
 use Rattle.wf_table.specs.declared.process.Sizes.{Sizes}
 use Rattle.wf_table.specs.Meaning.{Meaning}
-use Rattle.wf_table.specs.Table.{Process, own_block, row, at, to}
+use Rattle.wf_table.specs.StepTable.{Process, own_block, row, at, to}
 use Rattle.wf_table.specs.Object.{State, step_of, step_by, label_of, label_by}
 use Rattle.wf_table.specs.Ranges.{index_in}
 use Rattle.wf_table.specs.Labels.{copying}

@@ -6,7 +6,7 @@ use Rattle.ob_interface.specs.Call.{ObjectCall, Reply}
 use Rattle.wf_history.specs.History.{Event, Begin, Applied, End}
 use Rattle.wf_table.specs.Object.{history_after}
 use Rattle.wf_table.specs.Order.{exchanges_in, NoneEmpty}
-use Rattle.wf_table.proofs.CommitsSteps.{applies}
+use Rattle.wf_table.proofs.HelpAndOrderSteps.{applies}
 
 abbrev Events : Type 0
 Events = List (Event ObjectCall Reply)

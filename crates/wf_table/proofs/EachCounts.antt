@@ -8,7 +8,7 @@ use Rattle.ob_interface.specs.Call.{ObjectCall}
 use Rattle.wf_table.specs.declared.process.Label.{Label}
 use Rattle.wf_table.specs.declared.process.Sizes.{Sizes}
 use Rattle.wf_table.specs.Meaning.{Meaning}
-use Rattle.wf_table.specs.Table.{Process, row}
+use Rattle.wf_table.specs.StepTable.{Process, row}
 use Rattle.wf_table.specs.Object.{State, step_by, submit_by}
 use Rattle.wf_table.specs.Runs.{Act, Steps, Submits, act_of}
 use Rattle.wf_table.specs.Each.{Each}

@@ -17,10 +17,10 @@ use Rattle.wf_table.specs.declared.process.Sizes.{Sizes}
 use Rattle.wf_table.specs.Meaning.{Meaning, body}
 use Rattle.wf_table.specs.Law.{Effects, IsLawful}
 use Rattle.wf_table.specs.Below.{EventBelow}
-use Rattle.wf_table.specs.Table.{call_at}
+use Rattle.wf_table.specs.StepTable.{call_at}
 use Rattle.wf_table.specs.Object.{State}
 use Rattle.wf_table.specs.Sound.{IsSound}
-use Rattle.wf_table.proofs.CommitsSteps.{member}
+use Rattle.wf_table.proofs.HelpAndOrderSteps.{member}
 use Rattle.wf_table.specs.HelpAlone.{has_ended, left, replied, Alone}
 use Rattle.wf_table.specs.Helps.{IsHelped}
 use Rattle.wf_table.specs.Served.{OrderLeads}

@@ -11,7 +11,7 @@ use Rattle.wf_table.specs.declared.process.Label.TheVariants.{Next, Post, Flip, 
 use Rattle.wf_table.specs.Labels.{fetching}
 use Rattle.wf_table.specs.declared.process.Sizes.{Sizes}
 use Rattle.wf_table.specs.Meaning.{Meaning}
-use Rattle.wf_table.specs.Table.{Process, Change, Nothing, Own, Refill, Announce, Links, Exchanges, cell_after, row, after_body, body_turn, block_words, own_block, toggle_in, announced_toggle, at}
+use Rattle.wf_table.specs.StepTable.{Process, Change, Nothing, Own, Refill, Announce, Links, Exchanges, cell_after, row, after_body, body_turn, block_words, own_block, toggle_in, announced_toggle, at}
 use Rattle.wf_table.proofs.KeepsLinks.{cleared}
 use Rattle.wf_table.specs.Helps.{words_fetched, HasFetched}
 

@@ -12,7 +12,7 @@ use Rattle.wf_table.specs.Meaning.{Meaning}
 use Rattle.wf_table.specs.Law.{Effects, IsLawful}
 use Rattle.wf_table.specs.Ranges.{IsInRange}
 use Rattle.wf_table.specs.Scripts.{CallsFit}
-use Rattle.wf_table.specs.Table.{Process, open_call, call_at, own_block}
+use Rattle.wf_table.specs.StepTable.{Process, open_call, call_at, own_block}
 use Rattle.wf_table.specs.Object.{State, Halts, GoesOn, answer_by, answer_of, values_answered, event_at, label_by, seen_by, applied_ids, begun_of}
 use Rattle.wf_table.specs.Sound.{IsSound}
 

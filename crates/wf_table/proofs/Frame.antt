@@ -3,7 +3,7 @@ use Rattle.std.proofs.Common.{◌≡◌, ◌≢◌, ℕ, zero, suc, List, [], �
 use Rattle.std.specs.Prelude.{Some, slice_get}
 use Rattle.std.proofs.lemmas.Option.{same_Some}
 use Rattle.std.proofs.lemmas.Bool.{cases_eq}
-use Rattle.wf_table.specs.Table.{Process}
+use Rattle.wf_table.specs.StepTable.{Process}
 use Rattle.wf_table.specs.Each.{Each}
 
 slice_get-set_same : {X : Type 0} (xs : List X) (p : ℕ) (x y : X) → slice_get (set xs p x) p ≡ Some y → y ≡ x

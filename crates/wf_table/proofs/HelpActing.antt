@@ -13,11 +13,11 @@ use Rattle.wf_table.specs.Meaning.{Meaning}
 use Rattle.wf_table.specs.Law.{Effects, IsLawful}
 use Rattle.wf_table.specs.Labels.{copying}
 use Rattle.wf_table.specs.Ranges.{index_in}
-use Rattle.wf_table.specs.Table.{Process, cell_after, row, body_turn, own_block, toggle_in, announced_toggle, block_words, kept_word, part}
+use Rattle.wf_table.specs.StepTable.{Process, cell_after, row, body_turn, own_block, toggle_in, announced_toggle, block_words, kept_word, part}
 use Rattle.wf_table.specs.Object.{State}
 use Rattle.wf_table.specs.Sound.{IsSound}
 use Rattle.wf_table.specs.Helping.{has_copied, looked_at, IsHelping}
-use Rattle.wf_table.specs.Commits.{phase, lost_rounds, standing, own_toggles, IsCommitted}
+use Rattle.wf_table.specs.HelpAndOrder.{phase, lost_rounds, standing, own_toggles, IsCommitted}
 use Rattle.wf_table.specs.Helps.{IsHelped}
 use Rattle.wf_table.proofs.Words.{same_words}
 use Rattle.wf_table.proofs.Passed.{passed}

@@ -7,8 +7,8 @@ use Rattle.std.proofs.lemmas.List.Elements.{filter-append}
 use Rattle.std.proofs.lemmas.Bool.Decides.{Decides-int_eq}
 use Rattle.wf_history.specs.declared.event.CallId.{CallId}
 use Rattle.wf_table.specs.declared.process.Sizes.{Sizes}
-use Rattle.wf_table.specs.Table.{toggle_in}
-use Rattle.wf_table.proofs.CommitsIds.{ids_of, range_snoc, not_true}
+use Rattle.wf_table.specs.StepTable.{toggle_in}
+use Rattle.wf_table.proofs.HelpAndOrderIds.{ids_of, range_snoc, not_true}
 use Rattle.wf_table.specs.Helps.{made_below}
 
 -- the call of a process that has this number

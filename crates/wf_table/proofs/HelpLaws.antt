@@ -10,12 +10,12 @@ use Rattle.wf_table.specs.declared.process.Label.TheVariants.{Check2, Enter}
 use Rattle.wf_table.specs.declared.process.Sizes.{Sizes}
 use Rattle.wf_table.specs.Meaning.{Meaning}
 use Rattle.wf_table.specs.Law.{Effects, IsLawful}
-use Rattle.wf_table.specs.Table.{Process, own_block}
+use Rattle.wf_table.specs.StepTable.{Process, own_block}
 use Rattle.wf_table.specs.Object.{State}
 use Rattle.wf_table.specs.Toggles.{flips}
 use Rattle.wf_table.specs.Sound.{IsSound}
-use Rattle.wf_table.specs.Commits.{phase, IsCommitted}
-use Rattle.wf_table.proofs.CommitsSteps.{member}
+use Rattle.wf_table.specs.HelpAndOrder.{phase, IsCommitted}
+use Rattle.wf_table.proofs.HelpAndOrderSteps.{member}
 use Rattle.wf_table.specs.HelpAlone.{Alone}
 use Rattle.wf_table.specs.Helps.{calls_of, served, Packs, IsHelped}
 use Rattle.wf_table.specs.Served.{ServesOpen, MakesAnother}

@@ -7,9 +7,9 @@ use Rattle.wf_history.specs.History.{Event}
 use Rattle.wf_table.specs.declared.process.Label.{Label}
 use Rattle.wf_table.specs.declared.process.Sizes.{Sizes}
 use Rattle.wf_table.specs.Meaning.{Meaning}
-use Rattle.wf_table.specs.Table.{Process, toggle_in}
+use Rattle.wf_table.specs.StepTable.{Process, toggle_in}
 use Rattle.wf_table.specs.Helping.{has_copied, looked_at}
-use Rattle.wf_table.specs.Commits.{phase}
+use Rattle.wf_table.specs.HelpAndOrder.{phase}
 use Rattle.wf_table.specs.Helps.{calls_of, served, Packs}
 use Rattle.wf_table.specs.Labels.{holding}
 use Rattle.wf_table.proofs.HelpOrders.{upto-append, begun_more, made_longer}

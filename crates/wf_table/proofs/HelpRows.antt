@@ -19,10 +19,10 @@ use Rattle.wf_table.specs.Meaning.{Turned, Meaning, kept}
 use Rattle.wf_table.specs.Law.{Effects, IsLawful}
 use Rattle.wf_table.specs.Marks.{applied_in}
 use Rattle.wf_table.specs.Toggles.{flips}
-use Rattle.wf_table.specs.Table.{Process, Own, Refill, cell_after, own_block, toggle_in, inverted, block_words, part, to, at, or_past, after_body, kept_word}
+use Rattle.wf_table.specs.StepTable.{Process, Own, Refill, cell_after, own_block, toggle_in, inverted, block_words, part, to, at, or_past, after_body, kept_word}
 use Rattle.wf_table.specs.Object.{Records}
 use Rattle.wf_table.specs.Order.{applied_count}
-use Rattle.wf_table.proofs.CommitsIds.{not_true}
+use Rattle.wf_table.proofs.HelpAndOrderIds.{not_true}
 use Rattle.wf_table.specs.Contents.{RootHolds}
 use Rattle.wf_table.specs.Helps.{Witness, kept_words, Packs}
 use Rattle.wf_table.proofs.Words.{same_words}

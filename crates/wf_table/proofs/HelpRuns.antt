@@ -14,7 +14,7 @@ use Rattle.wf_table.specs.declared.process.Label.TheVariants.{Save, Enter, Body,
 use Rattle.wf_table.specs.declared.process.Sizes.{Sizes}
 use Rattle.wf_table.specs.Meaning.{Meaning}
 use Rattle.wf_table.specs.Law.{Effects, IsLawful}
-use Rattle.wf_table.specs.Table.{Process, own_block, block_words, part}
+use Rattle.wf_table.specs.StepTable.{Process, own_block, block_words, part}
 use Rattle.wf_table.specs.Object.{State, step_by, submit_by}
 use Rattle.wf_table.specs.Runs.{Act, Steps, Submits, ActsFit, act_of, run, IsRun}
 use Rattle.wf_table.specs.Each.{Each}
@@ -24,9 +24,9 @@ use Rattle.wf_table.specs.Start.{IsIdle, sizes_of, cell_at_start, records_at_sta
 use Rattle.wf_table.proofs.TableRuns.{run_sound}
 use Rattle.wf_table.proofs.Frame.{each_after}
 use Rattle.wf_table.specs.Helping.{has_copied, looked_at}
-use Rattle.wf_table.specs.Commits.{phase, flips_at, IsCommitted}
-use Rattle.wf_table.proofs.CommitsSteps.{linked_exchanges, flips_other, flips_own, flips_is}
-use Rattle.wf_table.proofs.CommitsRuns.{run_committed}
+use Rattle.wf_table.specs.HelpAndOrder.{phase, flips_at, IsCommitted}
+use Rattle.wf_table.proofs.HelpAndOrderSteps.{linked_exchanges, flips_other, flips_own, flips_is}
+use Rattle.wf_table.proofs.HelpAndOrderRuns.{run_committed}
 use Rattle.wf_table.specs.Contents.{RootHolds}
 use Rattle.wf_table.specs.Helps.{words_fetched, Witness, Works, Packs, AllFetched, AllPacked, IsHelped}
 use Rattle.wf_table.proofs.Blocks.{take_refilled, variables_reply}

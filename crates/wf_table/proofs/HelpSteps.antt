@@ -15,20 +15,20 @@ use Rattle.wf_table.specs.declared.process.Sizes.{Sizes}
 use Rattle.wf_table.specs.Meaning.{Meaning}
 use Rattle.wf_table.specs.Law.{Effects, IsLawful}
 use Rattle.wf_table.specs.Ranges.{IsInRange, index_in}
-use Rattle.wf_table.specs.Table.{Process, cell_after, row, own_block, toggle_in, to}
+use Rattle.wf_table.specs.StepTable.{Process, cell_after, row, own_block, toggle_in, to}
 use Rattle.wf_table.specs.Object.{Records, State, noted, event_at, history_after, order_after, stepped, begun_of}
 use Rattle.wf_table.specs.Sound.{IsSound}
 use Rattle.wf_table.specs.Toggles.{flips}
 use Rattle.wf_table.specs.Each.{Each}
 use Rattle.wf_table.proofs.Frame.{each_after}
 use Rattle.wf_table.specs.Helping.{Standing, IsPending, Settled, Serving, has_copied, looked_at, IsHelping}
-use Rattle.wf_table.specs.Commits.{phase, lost_rounds, standing, own_toggles, IsFounded, IsCommitted}
+use Rattle.wf_table.specs.HelpAndOrder.{phase, lost_rounds, standing, own_toggles, IsFounded, IsCommitted}
 use Rattle.wf_table.proofs.Seen.{served_pending, made_pending}
-use Rattle.wf_table.proofs.CommitsSteps.{same_root, same_own, same_order, unlinked_stays, row_exchanges, row_applies, private_step, flips_other}
+use Rattle.wf_table.proofs.HelpAndOrderSteps.{same_root, same_own, same_order, unlinked_stays, row_exchanges, row_applies, private_step, flips_other}
 use Rattle.wf_table.proofs.Applied.{new_ids, note}
 use Rattle.wf_table.proofs.KeepsHelp.{Kind, Flips, Exchanges, Neither, kind, serving_within}
 use Rattle.wf_table.proofs.KeepsOrder.{pending_begun}
-use Rattle.wf_table.proofs.CommitsRuns.{founded}
+use Rattle.wf_table.proofs.HelpAndOrderRuns.{founded}
 use Rattle.wf_table.specs.Contents.{RootHolds}
 use Rattle.wf_table.specs.Helps.{made_below, calls_of, Packs, AllFetched, AllPacked, IsHelped}
 use Rattle.wf_table.specs.Labels.{holding, fetching}

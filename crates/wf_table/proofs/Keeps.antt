@@ -14,7 +14,7 @@ use Rattle.wf_table.specs.declared.process.Label.TheVariants.{Flip, Try, Take, G
 use Rattle.wf_table.specs.declared.process.Registers.{Registers}
 use Rattle.wf_table.specs.declared.process.Sizes.{Sizes}
 use Rattle.wf_table.specs.Meaning.{Meaning}
-use Rattle.wf_table.specs.Table.{Process, cell_after, row, body_turn, toggle_in, announced_toggle, to}
+use Rattle.wf_table.specs.StepTable.{Process, cell_after, row, body_turn, toggle_in, announced_toggle, to}
 use Rattle.wf_table.specs.Object.{Records, noted, event_at}
 use Rattle.wf_table.specs.Marks.{IsMarked}
 use Rattle.wf_table.specs.Ranges.{IsInRange, index_in}
@@ -22,14 +22,14 @@ use Rattle.wf_table.specs.Labels.{at_next, unannounced}
 use Rattle.wf_table.proofs.Frame.{each_after}
 use Rattle.wf_table.specs.Helping.{Serving, has_copied, IsHelping}
 use Rattle.wf_table.specs.Order.{applied_count}
-use Rattle.wf_table.specs.Commits.{phase, lost_rounds, flips_at, announced_call, standing, own_toggles, IsFounded, IsHelpful, IsOrdered}
+use Rattle.wf_table.specs.HelpAndOrder.{phase, lost_rounds, flips_at, announced_call, standing, own_toggles, IsFounded, IsHelpful, IsOrdered}
 use Rattle.wf_table.proofs.Applied.{new_ids, note, exchange_step}
 use Rattle.wf_table.proofs.KeepsLinks.{cleared}
 use Rattle.wf_table.proofs.KeepsHelp.{Kind, Flips, Exchanges, Neither, kind, serving_within}
-use Rattle.wf_table.proofs.CommitsLaws.{made}
+use Rattle.wf_table.proofs.HelpAndOrderLaws.{made}
 use Rattle.wf_table.proofs.Numbers.{order_below}
 use Rattle.wf_table.proofs.Seen.{served_pending}
-use Rattle.wf_table.proofs.CommitsSteps.{row_exchanges, row_applies, private_step, same_rooted, same_link, flips_other, flips_own, flips_is}
+use Rattle.wf_table.proofs.HelpAndOrderSteps.{row_exchanges, row_applies, private_step, same_rooted, same_link, flips_other, flips_own, flips_is}
 use Rattle.wf_table.specs.Stands.{since, Stands, word_in, InPart, words_taken, RepliesStand, Carries, AllCarry, IsStanding}
 use Rattle.wf_table.proofs.Since.{since_root, in_order, from_order, since_stays, since_other}
 use Rattle.wf_table.proofs.StandingPlaces.{other_word, same_number}

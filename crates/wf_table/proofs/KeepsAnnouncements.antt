@@ -12,7 +12,7 @@ use Rattle.wf_table.specs.declared.process.Label.{Label}
 use Rattle.wf_table.specs.declared.process.Label.TheVariants.{Next, Post, Flip, Body}
 use Rattle.wf_table.specs.declared.process.Sizes.{Sizes}
 use Rattle.wf_table.specs.Meaning.{Meaning}
-use Rattle.wf_table.specs.Table.{Process, after_body, body_turn, announced_toggle, inverted, open_call, call_at, Change, Nothing, Own, Refill, Announce, Links, Exchanges, cell_after, row}
+use Rattle.wf_table.specs.StepTable.{Process, after_body, body_turn, announced_toggle, inverted, open_call, call_at, Change, Nothing, Own, Refill, Announce, Links, Exchanges, cell_after, row}
 use Rattle.wf_table.specs.Ranges.{IsShaped, IsInRange, index_in}
 use Rattle.wf_table.specs.Labels.{at_next, unannounced, at_post}
 use Rattle.wf_table.specs.Toggles.{CountsFlips, flips}

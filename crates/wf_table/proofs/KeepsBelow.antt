@@ -11,7 +11,7 @@ use Rattle.wf_table.specs.declared.process.Label.{Label}
 use Rattle.wf_table.specs.declared.process.Label.TheVariants.{Next, Commit, Give}
 use Rattle.wf_table.specs.declared.process.Sizes.{Sizes}
 use Rattle.wf_table.specs.Meaning.{Meaning}
-use Rattle.wf_table.specs.Table.{Process, call_at, own_block, toggle_in}
+use Rattle.wf_table.specs.StepTable.{Process, call_at, own_block, toggle_in}
 use Rattle.wf_table.specs.Object.{Records, noted, event_at, applied_ids, begun_of}
 use Rattle.wf_table.specs.Below.{IdBelow, EventBelow, IsBelow}
 use Rattle.wf_table.proofs.Counted.{turns_below}

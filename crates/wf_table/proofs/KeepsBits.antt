@@ -10,7 +10,7 @@ use Rattle.wf_table.specs.declared.process.Label.{Label}
 use Rattle.wf_table.specs.declared.process.Label.TheVariants.{Load, Store, Body, Undo, Keep}
 use Rattle.wf_table.specs.declared.process.Sizes.{Sizes}
 use Rattle.wf_table.specs.Meaning.{Meaning}
-use Rattle.wf_table.specs.Table.{Process, after_body, body_turn, block_words, toggle_place, toggle_in, own_block, Change, Nothing, Own, Refill, Announce, Links, Exchanges, cell_after, row}
+use Rattle.wf_table.specs.StepTable.{Process, after_body, body_turn, block_words, toggle_place, toggle_in, own_block, Change, Nothing, Own, Refill, Announce, Links, Exchanges, cell_after, row}
 use Rattle.wf_table.specs.Ranges.{IsInRange, index_in}
 use Rattle.wf_table.specs.Labels.{at_store}
 use Rattle.wf_table.specs.Toggles.{IsBit, AreBits, StoresBit}

@@ -12,7 +12,7 @@ use Rattle.wf_table.specs.declared.process.Label.{Label}
 use Rattle.wf_table.specs.declared.process.Label.TheVariants.{Try, Link, Load, Store, Check1, Mine, Body}
 use Rattle.wf_table.specs.declared.process.Sizes.{Sizes}
 use Rattle.wf_table.specs.Meaning.{Meaning}
-use Rattle.wf_table.specs.Table.{Process, after_body, body_turn, block_words, own_block, Change, Nothing, Own, Refill, Announce, Links, Exchanges, cell_after, row}
+use Rattle.wf_table.specs.StepTable.{Process, after_body, body_turn, block_words, own_block, Change, Nothing, Own, Refill, Announce, Links, Exchanges, cell_after, row}
 use Rattle.wf_table.specs.Ranges.{IsShaped, IsInRange, index_in}
 use Rattle.wf_table.specs.Labels.{in_round, copying, at_store}
 use Rattle.wf_table.specs.Copies.{HoldsRoot, CopiesRoot, AllCopyRoot}

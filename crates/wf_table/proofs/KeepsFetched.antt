@@ -12,18 +12,18 @@ use Rattle.wf_table.specs.declared.process.Label.{Label}
 use Rattle.wf_table.specs.declared.process.Label.TheVariants.{Post, Flip, Seen, Fetch, Check2, Body, Commit}
 use Rattle.wf_table.specs.declared.process.Sizes.{Sizes}
 use Rattle.wf_table.specs.Meaning.{Meaning}
-use Rattle.wf_table.specs.Table.{Process, Change, Nothing, Own, Refill, Announce, Links, Exchanges, cell_after, row, after_body, body_turn, own_block, toggle_in, announced_toggle, to, at}
+use Rattle.wf_table.specs.StepTable.{Process, Change, Nothing, Own, Refill, Announce, Links, Exchanges, cell_after, row, after_body, body_turn, own_block, toggle_in, announced_toggle, to, at}
 use Rattle.wf_table.specs.Object.{Records}
 use Rattle.wf_table.specs.Ranges.{IsInRange, index_in}
 use Rattle.wf_table.specs.Each.{Each}
 use Rattle.wf_table.proofs.Frame.{each_after}
 use Rattle.wf_table.proofs.KeepsLinks.{cleared}
 use Rattle.wf_table.specs.Helping.{IsPending, Settled, Serving, IsHelping}
-use Rattle.wf_table.specs.Commits.{phase, lost_rounds, standing, own_toggles, AllHelp, IsFounded, IsHelpful}
+use Rattle.wf_table.specs.HelpAndOrder.{phase, lost_rounds, standing, own_toggles, AllHelp, IsFounded, IsHelpful}
 use Rattle.wf_table.specs.Fetched.{Fetches, AllFetch}
 use Rattle.wf_table.specs.Labels.{fetching}
 use Rattle.wf_table.proofs.Seen.{served_pending}
-use Rattle.wf_table.proofs.CommitsRows.{on}
+use Rattle.wf_table.proofs.HelpAndOrderRows.{on}
 use Rattle.wf_table.proofs.KeepsHelp.{serving_within}
 
 -- a change that writes an announcement

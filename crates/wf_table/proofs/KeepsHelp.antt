@@ -12,7 +12,7 @@ use Rattle.wf_table.specs.declared.process.Label.TheVariants.{Next, Post, Flip, 
 use Rattle.wf_table.specs.declared.process.Registers.{Registers}
 use Rattle.wf_table.specs.declared.process.Sizes.{Sizes}
 use Rattle.wf_table.specs.Meaning.{Meaning}
-use Rattle.wf_table.specs.Table.{Process, cell_after, row, body_turn, toggle_in, announced_toggle, inverted, to}
+use Rattle.wf_table.specs.StepTable.{Process, cell_after, row, body_turn, toggle_in, announced_toggle, inverted, to}
 use Rattle.wf_table.specs.Object.{Records, noted, event_at}
 use Rattle.wf_table.specs.Ranges.{IsInRange, index_in}
 use Rattle.wf_table.specs.Labels.{at_next, unannounced}
@@ -20,15 +20,15 @@ use Rattle.wf_table.specs.Toggles.{flips}
 use Rattle.wf_table.proofs.KeepsLinks.{cleared}
 use Rattle.wf_table.specs.Helping.{Standing, IsCounted, Looking, Serving, IsHelping}
 use Rattle.wf_table.proofs.Changes.{IsSame, IsFlipped}
-use Rattle.wf_table.specs.Commits.{phase, lost_rounds, flips_at, standing, own_toggles, AllHelp, IsFounded, IsHelpful}
+use Rattle.wf_table.specs.HelpAndOrder.{phase, lost_rounds, flips_at, standing, own_toggles, AllHelp, IsFounded, IsHelpful}
 use Rattle.wf_table.specs.Order.{applied_count}
-use Rattle.wf_table.proofs.CommitsOthers.{same_helping, flipped_helping}
-use Rattle.wf_table.proofs.CommitsActing.{tries, settles}
+use Rattle.wf_table.proofs.HelpAndOrderOthers.{same_helping, flipped_helping}
+use Rattle.wf_table.proofs.HelpAndOrderActing.{tries, settles}
 use Rattle.wf_table.proofs.Exchange.{exchanged_counts, exchanged_helping, exchanger_settles}
 use Rattle.wf_table.proofs.Applied.{new_ids, note, exchange_step}
 use Rattle.wf_table.proofs.Frame.{each_after}
-use Rattle.wf_table.proofs.CommitsSteps.{same_own, same_link, row_exchanges, private_step, flips_other, flips_own, flips_is}
-use Rattle.wf_table.proofs.CommitsRows.{own_helps}
+use Rattle.wf_table.proofs.HelpAndOrderSteps.{same_own, same_link, row_exchanges, private_step, flips_other, flips_own, flips_is}
+use Rattle.wf_table.proofs.HelpAndOrderRows.{own_helps}
 use Rattle.wf_table.proofs.Words.{next_parity}
 
 -- a step flips, or exchanges, or does neither

@@ -11,7 +11,7 @@ use Rattle.wf_table.specs.declared.process.Label.{Label}
 use Rattle.wf_table.specs.declared.process.Label.TheVariants.{Link, Body}
 use Rattle.wf_table.specs.declared.process.Sizes.{Sizes}
 use Rattle.wf_table.specs.Meaning.{Meaning}
-use Rattle.wf_table.specs.Table.{Process, after_body, body_turn, Change, Nothing, Own, Refill, Announce, Links, Exchanges, cell_after, row}
+use Rattle.wf_table.specs.StepTable.{Process, after_body, body_turn, Change, Nothing, Own, Refill, Announce, Links, Exchanges, cell_after, row}
 use Rattle.wf_table.specs.Labels.{in_round}
 use Rattle.wf_table.specs.Copies.{HoldsRoot, AllHoldRoot}
 use Rattle.wf_table.specs.Each.{Each}

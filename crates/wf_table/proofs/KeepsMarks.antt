@@ -10,7 +10,7 @@ use Rattle.wf_table.specs.declared.process.Label.{Label}
 use Rattle.wf_table.specs.declared.process.Label.TheVariants.{Next, Commit, Give}
 use Rattle.wf_table.specs.declared.process.Sizes.{Sizes}
 use Rattle.wf_table.specs.Meaning.{Meaning}
-use Rattle.wf_table.specs.Table.{Process, row, cell_after, call_at, own_block}
+use Rattle.wf_table.specs.StepTable.{Process, row, cell_after, call_at, own_block}
 use Rattle.wf_table.specs.Object.{Records, noted, event_at, order_after, root_marks_after, applied_ids, begun_of}
 use Rattle.wf_table.specs.Labels.{at_flip}
 use Rattle.wf_table.specs.Marks.{IsMarked, applied_in}

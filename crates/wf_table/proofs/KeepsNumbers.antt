@@ -3,7 +3,7 @@ use Rattle.std.proofs.Common.{ℕ, ◌<◌, length}
 use Rattle.ll_cell.specs.Cell.{Cell, IsNumbered}
 use Rattle.ll_cell.proofs.Exchange.{exchange_cases}
 use Rattle.ll_cell.proofs.Numbered.{keeps_numbered}
-use Rattle.wf_table.specs.Table.{Change, Nothing, Own, Refill, Announce, Links, Exchanges, cell_after}
+use Rattle.wf_table.specs.StepTable.{Change, Nothing, Own, Refill, Announce, Links, Exchanges, cell_after}
 
 pub keeps_numbers : (c : Cell) (p : ℕ) (change : Change) → p < length c.own → IsNumbered c.root c.own → IsNumbered (cell_after c p change).root (cell_after c p change).own
 keeps_numbers c p Nothing lt h = h

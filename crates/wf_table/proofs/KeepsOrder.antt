@@ -12,20 +12,20 @@ use Rattle.wf_table.specs.declared.process.Label.{Label}
 use Rattle.wf_table.specs.declared.process.Label.TheVariants.{Post, Flip, Try, Commit, Read}
 use Rattle.wf_table.specs.declared.process.Sizes.{Sizes}
 use Rattle.wf_table.specs.Meaning.{Meaning}
-use Rattle.wf_table.specs.Table.{Process, cell_after, row, toggle_in, to}
+use Rattle.wf_table.specs.StepTable.{Process, cell_after, row, toggle_in, to}
 use Rattle.wf_table.specs.Object.{Records, noted, event_at, history_after, begun_of}
 use Rattle.wf_table.specs.Toggles.{flips}
 use Rattle.wf_table.specs.Labels.{unannounced}
 use Rattle.wf_table.specs.Helping.{IsPending, Settled, Looking}
 use Rattle.wf_table.proofs.Changes.{IsSame}
-use Rattle.wf_table.specs.Commits.{phase, flips_at, standing, own_toggles, IsFounded, IsHelpful, IsOrdered}
+use Rattle.wf_table.specs.HelpAndOrder.{phase, flips_at, standing, own_toggles, IsFounded, IsHelpful, IsOrdered}
 use Rattle.wf_table.specs.Order.{own_numbers, applied_count, exchanges_in}
 use Rattle.wf_table.proofs.Seen.{given, made_pending}
 use Rattle.wf_table.proofs.Exchange.{cases_words, asked_is_given, still_open}
-use Rattle.wf_table.proofs.CommitsIds.{own_numbers-append, none_above, range_snoc}
+use Rattle.wf_table.proofs.HelpAndOrderIds.{own_numbers-append, none_above, range_snoc}
 use Rattle.wf_table.proofs.Applied.{new_ids, note, no_number, its_number, exchange_step}
 use Rattle.wf_table.proofs.Counts.{fewer_later, none_behind, exchanges_more, exchanges_same, none_empty-append, none_empty_after}
-use Rattle.wf_table.proofs.CommitsSteps.{member, row_applies, same_order, private_step, flips_other, flips_is}
+use Rattle.wf_table.proofs.HelpAndOrderSteps.{member, row_applies, same_order, private_step, flips_other, flips_is}
 use Rattle.wf_table.proofs.KeepsHelp.{Kind, Flips, Exchanges, Neither, kind, At, exchanger, all_looked_at}
 
 pub open_announced : (l : Label) → phase l ≢ Settled → unannounced l ≡ false

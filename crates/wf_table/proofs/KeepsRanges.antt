@@ -14,7 +14,7 @@ use Rattle.ob_interface.specs.Call.{ObjectCall}
 use Rattle.wf_table.specs.declared.engine_turn.EngineTurn.{EngineTurn}
 use Rattle.wf_table.specs.declared.engine_turn.EngineTurn.TheVariants.{On, Returned, Trapped, Stuck}
 use Rattle.wf_table.specs.Meaning.{Meaning}
-use Rattle.wf_table.specs.Table.{Process, call_at, after_body, body_turn, Change, Nothing, Own, Refill, Announce, Links, Exchanges, cell_after, row}
+use Rattle.wf_table.specs.StepTable.{Process, call_at, after_body, body_turn, Change, Nothing, Own, Refill, Announce, Links, Exchanges, cell_after, row}
 use Rattle.wf_table.specs.Ranges.{IsSized, IsShaped, IsInRange, index_in}
 use Rattle.wf_table.specs.Labels.{at_next, in_try}
 use Rattle.wf_table.specs.Scripts.{CallsFit}

@@ -11,7 +11,7 @@ use Rattle.wf_table.specs.declared.process.Label.TheVariants.{Enter, Body}
 use Rattle.wf_table.specs.declared.process.Sizes.{Sizes}
 use Rattle.wf_table.specs.Meaning.{Meaning}
 use Rattle.wf_table.specs.Law.{Effects, IsLawful}
-use Rattle.wf_table.specs.Table.{Process, after_body, body_turn, own_block, row}
+use Rattle.wf_table.specs.StepTable.{Process, after_body, body_turn, own_block, row}
 
 body_run : {Run : Type 0} (z : Sizes) (t : EngineTurn) (q : Process Run) → (after_body z t q).run ≡ q.run
 body_run z On q = refl

@@ -12,7 +12,7 @@ use Rattle.wf_table.specs.declared.process.Label.{Label}
 use Rattle.wf_table.specs.declared.process.Label.TheVariants.{Next, Post, Try, Commit, Read, Give}
 use Rattle.wf_table.specs.declared.process.Sizes.{Sizes}
 use Rattle.wf_table.specs.Meaning.{Meaning}
-use Rattle.wf_table.specs.Table.{Process, row, call_at, open_call, own_block, to}
+use Rattle.wf_table.specs.StepTable.{Process, row, call_at, open_call, own_block, to}
 use Rattle.wf_table.specs.Object.{event_at, history_after, applied_ids, begun_of}
 use Rattle.wf_table.specs.Scripts.{BeginsScript}
 use Rattle.wf_table.proofs.KeepsTurns.{IsOwn, AllOwn}

@@ -8,7 +8,7 @@ use Rattle.ob_interface.specs.Call.{ObjectCall}
 use Rattle.wf_table.specs.declared.process.Sizes.{Sizes}
 use Rattle.wf_table.specs.Meaning.{Meaning}
 use Rattle.wf_table.specs.Law.{Effects, IsLawful}
-use Rattle.wf_table.specs.Table.{Process, cell_after, row, own_block}
+use Rattle.wf_table.specs.StepTable.{Process, cell_after, row, own_block}
 use Rattle.wf_table.specs.Object.{State, stepped, noted, event_at}
 use Rattle.wf_table.specs.Ranges.{IsInRange}
 use Rattle.wf_table.specs.Copies.{AllCopyRoot}

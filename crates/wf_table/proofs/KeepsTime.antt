@@ -11,15 +11,15 @@ use Rattle.wf_table.specs.declared.process.Label.{Label}
 use Rattle.wf_table.specs.declared.process.Label.TheVariants.{Next, Commit, Give}
 use Rattle.wf_table.specs.declared.process.Sizes.{Sizes}
 use Rattle.wf_table.specs.Meaning.{Meaning}
-use Rattle.wf_table.specs.Table.{Process, call_at, open_call}
+use Rattle.wf_table.specs.StepTable.{Process, call_at, open_call}
 use Rattle.wf_table.specs.Object.{Records, event_at, history_after, order_after}
 use Rattle.wf_table.specs.Labels.{at_next, unannounced}
-use Rattle.wf_table.specs.Commits.{phase, flips_at, IsFounded, IsHelpful, IsOrdered}
+use Rattle.wf_table.specs.HelpAndOrder.{phase, flips_at, IsFounded, IsHelpful, IsOrdered}
 use Rattle.wf_table.specs.Order.{applied_count, IsTimed}
 use Rattle.wf_table.proofs.Numbers.{in_order, order_below}
 use Rattle.wf_table.proofs.Timed.{time_begins, time_ends, time_applies}
 use Rattle.wf_table.proofs.Applied.{new_ids}
-use Rattle.wf_table.proofs.CommitsSteps.{flips_is}
+use Rattle.wf_table.proofs.HelpAndOrderSteps.{flips_is}
 
 module _ {Run : Type 0} (m : Meaning Run) (z : Sizes) (c : Cell) (ps : List (Process Run)) (r : Records) (p : ℕ) (q : Process Run) where
   -- the calls announced at NEXT and at GIVE are those that began

@@ -14,7 +14,7 @@ use Rattle.wf_table.specs.declared.process.Sizes.{Sizes}
 use Rattle.wf_table.specs.declared.engine_turn.EngineTurn.{EngineTurn}
 use Rattle.wf_table.specs.declared.engine_turn.EngineTurn.TheVariants.{On, Returned, Trapped, Stuck}
 use Rattle.wf_table.specs.Meaning.{Meaning}
-use Rattle.wf_table.specs.Table.{Process, row, after_body, body_turn, call_at, open_call, own_block, to}
+use Rattle.wf_table.specs.StepTable.{Process, row, after_body, body_turn, call_at, open_call, own_block, to}
 use Rattle.wf_table.specs.Object.{event_at, history_after, applied_ids, begun_of}
 use Rattle.wf_table.specs.Ranges.{IsInRange}
 use Rattle.wf_table.specs.Labels.{at_next}

@@ -11,15 +11,15 @@ use Rattle.wf_history.specs.Legal.{OneAtATime, none, more, HasBegun, RepliesAgre
 use Rattle.wf_table.specs.declared.process.Sizes.{Sizes}
 use Rattle.wf_table.specs.Meaning.{Meaning}
 use Rattle.wf_table.specs.Law.{Effects, IsLawful}
-use Rattle.wf_table.specs.Table.{Process}
+use Rattle.wf_table.specs.StepTable.{Process}
 use Rattle.wf_table.specs.Object.{State, Records, event_at, step_by, submit_by}
 use Rattle.wf_table.specs.Runs.{Act, Steps, Submits, ActsFit, act_of, run, IsRun}
 use Rattle.wf_table.specs.Sound.{IsSound}
 use Rattle.wf_table.specs.Start.{sizes_of}
 use Rattle.wf_table.proofs.TableRuns.{run_sound}
-use Rattle.wf_table.specs.Commits.{IsCommitted}
-use Rattle.wf_table.proofs.CommitsLaws.{order_once}
-use Rattle.wf_table.proofs.CommitsRuns.{founded, act_committed, run_committed}
+use Rattle.wf_table.specs.HelpAndOrder.{IsCommitted}
+use Rattle.wf_table.proofs.HelpAndOrderLaws.{order_once}
+use Rattle.wf_table.proofs.HelpAndOrderRuns.{founded, act_committed, run_committed}
 use Rattle.wf_table.proofs.Timed.{never_before}
 use Rattle.wf_table.specs.HelpAlone.{Alone}
 use Rattle.wf_table.specs.Contents.{RootHolds}

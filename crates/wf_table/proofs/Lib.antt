@@ -11,13 +11,13 @@ pub mod BoundRuns
 pub mod Calls
 pub mod Carried
 pub mod Changes
-mod CommitsActing
-pub mod CommitsIds
-pub mod CommitsLaws
-mod CommitsOthers
-pub mod CommitsRows
-pub mod CommitsRuns
-pub mod CommitsSteps
+mod HelpAndOrderActing
+pub mod HelpAndOrderIds
+pub mod HelpAndOrderLaws
+mod HelpAndOrderOthers
+pub mod HelpAndOrderRows
+pub mod HelpAndOrderRuns
+pub mod HelpAndOrderSteps
 pub mod Copied
 pub mod Counted
 pub mod Counts

@@ -11,11 +11,11 @@ use Rattle.wf_table.specs.declared.process.Label.{Label}
 use Rattle.wf_table.specs.declared.process.Label.TheVariants.{Mine, Seen, Fetch, Check2, Commit, Keep}
 use Rattle.wf_table.specs.declared.process.Sizes.{Sizes}
 use Rattle.wf_table.specs.Meaning.{Meaning}
-use Rattle.wf_table.specs.Table.{Process, toggle_in}
+use Rattle.wf_table.specs.StepTable.{Process, toggle_in}
 use Rattle.wf_table.specs.Marks.{applied_in}
 use Rattle.wf_table.specs.Helping.{looked_at}
 use Rattle.wf_table.specs.Order.{applied_count}
-use Rattle.wf_table.specs.Commits.{phase}
+use Rattle.wf_table.specs.HelpAndOrder.{phase}
 use Rattle.wf_table.specs.Contents.{RootHolds}
 use Rattle.wf_table.specs.Helps.{Witness, calls_of, Works, IsPacked}
 use Rattle.wf_table.specs.Labels.{holding, holds_variables, at_keep}

@@ -16,10 +16,10 @@ use Rattle.wf_table.specs.declared.process.Label.TheVariants.{Seen, Body, Undo, 
 use Rattle.wf_table.specs.declared.process.Sizes.{Sizes}
 use Rattle.wf_table.specs.Meaning.{Turned, Meaning, body, kept}
 use Rattle.wf_table.specs.Law.{Effects, IsLawful}
-use Rattle.wf_table.specs.Table.{Process, part, toggle_place, toggle_in, inverted, block_words}
+use Rattle.wf_table.specs.StepTable.{Process, part, toggle_place, toggle_in, inverted, block_words}
 use Rattle.wf_table.proofs.Words.{next_parity, toggle_within, part_within}
 use Rattle.wf_table.specs.Order.{applied_count}
-use Rattle.wf_table.proofs.CommitsIds.{applied_more, not_true}
+use Rattle.wf_table.proofs.HelpAndOrderIds.{applied_more, not_true}
 use Rattle.wf_table.specs.HelpAlone.{Alone}
 use Rattle.wf_table.specs.Contents.{reply_word, last_words, no_words, IsMade}
 use Rattle.wf_table.specs.Helps.{Witness, calls_of, served, made_below, kept_words}

@@ -8,7 +8,7 @@ use Rattle.wf_table.specs.declared.process.Label.{Label}
 use Rattle.wf_table.specs.declared.process.Label.TheVariants.{Next, Body}
 use Rattle.wf_table.specs.declared.process.Sizes.{Sizes}
 use Rattle.wf_table.specs.Meaning.{Meaning}
-use Rattle.wf_table.specs.Table.{Process, after_body, body_turn, row}
+use Rattle.wf_table.specs.StepTable.{Process, after_body, body_turn, row}
 use Rattle.wf_table.specs.Labels.{at_next}
 
 module _ {Run : Type 0} where

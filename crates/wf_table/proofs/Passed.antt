@@ -14,13 +14,13 @@ use Rattle.wf_table.specs.Law.{Effects, IsLawful}
 use Rattle.wf_table.specs.Labels.{at_next, unannounced}
 use Rattle.wf_table.specs.Announcements.{words_laid}
 use Rattle.wf_table.specs.Ranges.{index_in}
-use Rattle.wf_table.specs.Table.{Process, open_call}
+use Rattle.wf_table.specs.StepTable.{Process, open_call}
 use Rattle.wf_table.specs.Object.{State}
 use Rattle.wf_table.specs.Sound.{IsSound}
 use Rattle.wf_table.specs.Helping.{Settled, IsPending, IsHelping}
-use Rattle.wf_table.specs.Commits.{phase, lost_rounds, flips_at, standing, own_toggles, IsCommitted}
+use Rattle.wf_table.specs.HelpAndOrder.{phase, lost_rounds, flips_at, standing, own_toggles, IsCommitted}
 use Rattle.wf_table.proofs.Seen.{served_pending}
-use Rattle.wf_table.proofs.CommitsSteps.{member, flips_is}
+use Rattle.wf_table.proofs.HelpAndOrderSteps.{member, flips_is}
 use Rattle.wf_table.proofs.Numbers.{order_below}
 use Rattle.wf_table.specs.Helps.{words_fetched, AllFetched}
 use Rattle.wf_table.proofs.Words.{same_words}

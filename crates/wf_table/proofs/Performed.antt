@@ -8,7 +8,7 @@ use Rattle.wf_table.specs.declared.schedule.Turns.{Turns}
 use Rattle.wf_table.specs.Meaning.{Meaning}
 use Rattle.wf_table.specs.Law.{Effects, IsLawful}
 use Rattle.wf_table.specs.Schedule.{counted, steps_of}
-use Rattle.wf_table.specs.Table.{Process}
+use Rattle.wf_table.specs.StepTable.{Process}
 use Rattle.wf_table.specs.Object.{State, step_of, step_by}
 use Rattle.wf_table.specs.Start.{sizes_of}
 use Rattle.wf_table.specs.Runs.{Act, Steps, ActsFit, act_of, run, submissions, turns, performed, IsRun}

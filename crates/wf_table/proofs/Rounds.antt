@@ -9,7 +9,7 @@ use Rattle.wf_table.specs.declared.process.Label.{Label}
 use Rattle.wf_table.specs.declared.process.Label.TheVariants.{Next, Post, Link, Body}
 use Rattle.wf_table.specs.declared.process.Sizes.{Sizes}
 use Rattle.wf_table.specs.Meaning.{Meaning}
-use Rattle.wf_table.specs.Table.{Process, call_at, row, to, after_body, body_turn}
+use Rattle.wf_table.specs.StepTable.{Process, call_at, row, to, after_body, body_turn}
 use Rattle.wf_table.specs.Runs.{Act, ActsFit}
 use Rattle.wf_table.specs.Object.{State}
 use Rattle.wf_table.specs.Ranges.{IsInRange}

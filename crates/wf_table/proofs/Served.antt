@@ -10,17 +10,17 @@ use Rattle.wf_table.specs.declared.process.Label.TheVariants.{Next, Post, Check2
 use Rattle.wf_table.specs.declared.process.Sizes.{Sizes}
 use Rattle.wf_table.specs.Meaning.{Meaning}
 use Rattle.wf_table.specs.Law.{Effects, IsLawful}
-use Rattle.wf_table.specs.Table.{Process, open_call, announced_toggle}
+use Rattle.wf_table.specs.StepTable.{Process, open_call, announced_toggle}
 use Rattle.wf_table.specs.Object.{State}
 use Rattle.wf_table.specs.Labels.{at_next, fetching}
 use Rattle.wf_table.specs.Ranges.{index_in}
 use Rattle.wf_table.specs.Announcements.{words_laid}
 use Rattle.wf_table.specs.Sound.{IsSound}
 use Rattle.wf_table.specs.Helping.{IsPending, Settled, Serving, IsHelping}
-use Rattle.wf_table.specs.Commits.{phase, lost_rounds, flips_at, standing, own_toggles, IsCommitted}
+use Rattle.wf_table.specs.HelpAndOrder.{phase, lost_rounds, flips_at, standing, own_toggles, IsCommitted}
 use Rattle.wf_table.specs.Fetched.{ServesCall}
 use Rattle.wf_table.proofs.Seen.{served_pending}
-use Rattle.wf_table.proofs.CommitsSteps.{flips_is}
+use Rattle.wf_table.proofs.HelpAndOrderSteps.{flips_is}
 use Rattle.wf_table.proofs.Numbers.{order_below}
 use Rattle.wf_table.proofs.KeepsOrder.{open_announced}
 

@@ -15,9 +15,9 @@ use Rattle.wf_table.specs.declared.process.Label.TheVariants.{Check2, Save, Ente
 use Rattle.wf_table.specs.declared.process.Sizes.{Sizes}
 use Rattle.wf_table.specs.Meaning.{Meaning}
 use Rattle.wf_table.specs.Marks.{applied_in}
-use Rattle.wf_table.specs.Table.{Process, toggle_in}
+use Rattle.wf_table.specs.StepTable.{Process, toggle_in}
 use Rattle.wf_table.specs.Helping.{looked_at}
-use Rattle.wf_table.specs.Commits.{phase}
+use Rattle.wf_table.specs.HelpAndOrder.{phase}
 use Rattle.wf_table.specs.Contents.{reply_word}
 use Rattle.wf_table.specs.Helps.{Witness, Works}
 use Rattle.wf_table.specs.Labels.{holding, holds_variables, at_keep}

@@ -11,7 +11,7 @@ use Rattle.wf_table.specs.declared.process.Label.{Label}
 use Rattle.wf_table.specs.declared.process.Sizes.{Sizes}
 use Rattle.wf_table.specs.Object.{Records, noted, history_after}
 use Rattle.wf_table.specs.Marks.{IsMarked, applied_in}
-use Rattle.wf_table.proofs.CommitsSteps.{applies, same_marks}
+use Rattle.wf_table.proofs.HelpAndOrderSteps.{applies, same_marks}
 use Rattle.wf_table.specs.Stands.{since}
 
 abbrev Events : Type 0

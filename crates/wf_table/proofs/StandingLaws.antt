@@ -15,7 +15,7 @@ use Rattle.wf_table.specs.declared.process.Label.TheVariants.{Flip, Commit}
 use Rattle.wf_table.specs.declared.process.Sizes.{Sizes}
 use Rattle.wf_table.specs.Meaning.{Meaning}
 use Rattle.wf_table.specs.Law.{Effects, IsLawful}
-use Rattle.wf_table.specs.Table.{Process, cell_after, row}
+use Rattle.wf_table.specs.StepTable.{Process, cell_after, row}
 use Rattle.wf_table.specs.Object.{State, Records, event_at, order_after, step_by, submit_by}
 use Rattle.wf_table.specs.Runs.{Act, Steps, Submits, ActsFit, act_of, run, IsRun}
 use Rattle.wf_table.specs.Labels.{unannounced}
@@ -24,10 +24,10 @@ use Rattle.wf_table.specs.Sound.{IsSound}
 use Rattle.wf_table.specs.Start.{sizes_of}
 use Rattle.wf_table.proofs.TableRuns.{run_sound}
 use Rattle.wf_table.specs.Helping.{has_copied}
-use Rattle.wf_table.specs.Commits.{phase, flips_at, announced_call, IsFounded}
+use Rattle.wf_table.specs.HelpAndOrder.{phase, flips_at, announced_call, IsFounded}
 use Rattle.wf_table.proofs.KeepsHelp.{Kind, Flips, Exchanges, Neither, kind}
-use Rattle.wf_table.proofs.CommitsRuns.{founded}
-use Rattle.wf_table.proofs.CommitsSteps.{row_exchanges, same_rooted, same_flips, flips_other, flips_own, flips_is}
+use Rattle.wf_table.proofs.HelpAndOrderRuns.{founded}
+use Rattle.wf_table.proofs.HelpAndOrderSteps.{row_exchanges, same_rooted, same_flips, flips_other, flips_own, flips_is}
 use Rattle.wf_table.specs.Stands.{Stands, word_in, InPart, IsStanding}
 use Rattle.wf_table.proofs.Since.{from_order}
 use Rattle.wf_table.proofs.StandingPlaces.{other_word}

@@ -6,9 +6,9 @@ use Rattle.std.proofs.lemmas.Bool.{cases_lt}
 use Rattle.std.proofs.lemmas.List.{get_or-set_same, get_or-set_other}
 use Rattle.ll_cell.specs.Cell.{Cell, own_of, is_linked, exchanged, refilled, word_at}
 use Rattle.wf_table.specs.declared.process.Sizes.{Sizes}
-use Rattle.wf_table.specs.Table.{Change, Nothing, Own, Refill, Announce, Links, Exchanges, cell_after, own_block, part, block_words}
+use Rattle.wf_table.specs.StepTable.{Change, Nothing, Own, Refill, Announce, Links, Exchanges, cell_after, own_block, part, block_words}
 use Rattle.wf_table.proofs.Words.{refilled_behind, part_within}
-use Rattle.wf_table.proofs.CommitsSteps.{exchanges, word_stays, unlinked_stays}
+use Rattle.wf_table.proofs.HelpAndOrderSteps.{exchanges, word_stays, unlinked_stays}
 use Rattle.wf_table.specs.Stands.{word_in, InPart}
 
 -- a place in two parts

@@ -11,13 +11,13 @@ use Rattle.wf_table.specs.declared.process.Label.{Label}
 use Rattle.wf_table.specs.declared.process.Label.TheVariants.{Next, Post, Flip, Try, Link, Load, Store, Check1, Mine, Seen, Fetch, Check2, Save, Enter, Body, Undo, Keep, Commit, Read, Take, Give}
 use Rattle.wf_table.specs.declared.process.Sizes.{Sizes}
 use Rattle.wf_table.specs.Meaning.{Meaning}
-use Rattle.wf_table.specs.Table.{Process, Change, Nothing, Own, Refill, Links, Exchanges, part, kept_word, cell_after, row, after_body, body_turn, own_block, block_words, toggle_in, toggle_place, announced_toggle, to, at}
+use Rattle.wf_table.specs.StepTable.{Process, Change, Nothing, Own, Refill, Links, Exchanges, part, kept_word, cell_after, row, after_body, body_turn, own_block, block_words, toggle_in, toggle_place, announced_toggle, to, at}
 use Rattle.wf_table.specs.Ranges.{IsShaped, IsInRange, index_in}
 use Rattle.wf_table.specs.Labels.{copying, at_store, taking}
 use Rattle.wf_table.specs.Copies.{AllCopyRoot}
-use Rattle.wf_table.proofs.CommitsSteps.{unlinked_stays}
+use Rattle.wf_table.proofs.HelpAndOrderSteps.{unlinked_stays}
 use Rattle.wf_table.specs.Helping.{Serving, Looking, has_copied}
-use Rattle.wf_table.specs.Commits.{phase}
+use Rattle.wf_table.specs.HelpAndOrder.{phase}
 use Rattle.wf_table.specs.Stands.{InPart, word_in, words_taken, RepliesStand, Carries}
 use Rattle.wf_table.proofs.StandingPlaces.{same_part, place_in, place_within, other_word, own_word, written_word, word_behind}
 use Rattle.wf_table.proofs.Carried.{behind, rests, copies_on, takes_on}

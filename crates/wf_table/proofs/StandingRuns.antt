@@ -12,7 +12,7 @@ use Rattle.wf_table.specs.declared.process.Label.{Label}
 use Rattle.wf_table.specs.declared.process.Sizes.{Sizes}
 use Rattle.wf_table.specs.Meaning.{Meaning}
 use Rattle.wf_table.specs.Law.{Effects, IsLawful}
-use Rattle.wf_table.specs.Table.{Process, own_block, body_turn}
+use Rattle.wf_table.specs.StepTable.{Process, own_block, body_turn}
 use Rattle.wf_table.specs.Object.{State, Records, step_by, submit_by}
 use Rattle.wf_table.specs.Runs.{Act, Steps, Submits, ActsFit, act_of, run, IsRun}
 use Rattle.wf_table.specs.Each.{Each}
@@ -22,9 +22,9 @@ use Rattle.wf_table.specs.Start.{IsIdle, sizes_of, records_at_start}
 use Rattle.wf_table.proofs.Frame.{each_after}
 use Rattle.wf_table.proofs.TableRuns.{run_sound}
 use Rattle.wf_table.specs.Helping.{has_copied}
-use Rattle.wf_table.specs.Commits.{phase, flips_at, announced_call, IsFounded, IsCommitted}
-use Rattle.wf_table.proofs.CommitsRuns.{founded, act_committed, run_committed}
-use Rattle.wf_table.proofs.CommitsSteps.{flips_other, flips_own, flips_is}
+use Rattle.wf_table.specs.HelpAndOrder.{phase, flips_at, announced_call, IsFounded, IsCommitted}
+use Rattle.wf_table.proofs.HelpAndOrderRuns.{founded, act_committed, run_committed}
+use Rattle.wf_table.proofs.HelpAndOrderSteps.{flips_other, flips_own, flips_is}
 use Rattle.wf_table.specs.Stands.{since, Stands, word_in, Carries, AllCarry, IsStanding}
 use Rattle.wf_table.proofs.Since.{in_order}
 use Rattle.wf_table.proofs.Carried.{rests, others_carry}

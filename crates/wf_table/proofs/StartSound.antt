@@ -13,7 +13,7 @@ use Rattle.wf_table.specs.declared.process.Label.{Label}
 use Rattle.wf_table.specs.declared.process.Sizes.{Sizes}
 use Rattle.wf_table.specs.Meaning.{Meaning}
 use Rattle.wf_table.specs.Law.{Effects, IsLawful}
-use Rattle.wf_table.specs.Table.{Process, block_words, toggle_place, announced_toggle, Refill, Links, Exchanges}
+use Rattle.wf_table.specs.StepTable.{Process, block_words, toggle_place, announced_toggle, Refill, Links, Exchanges}
 use Rattle.wf_table.specs.Ranges.{IsSized, IsShaped, IsInRange}
 use Rattle.wf_table.specs.Labels.{in_try, in_round, copying, at_store, at_post}
 use Rattle.wf_table.specs.Each.{Each}

@@ -12,7 +12,7 @@ use Rattle.wf_table.specs.declared.process.Label.TheVariants.{Body}
 use Rattle.wf_table.specs.declared.process.Sizes.{Sizes}
 use Rattle.wf_table.specs.Meaning.{Meaning}
 use Rattle.wf_table.specs.Law.{Effects, IsLawful}
-use Rattle.wf_table.specs.Table.{Process, after_body, body_turn, own_block, row, cell_after}
+use Rattle.wf_table.specs.StepTable.{Process, after_body, body_turn, own_block, row, cell_after}
 use Rattle.wf_table.specs.Object.{State, stepped}
 use Rattle.wf_table.specs.Sound.{IsSound}
 

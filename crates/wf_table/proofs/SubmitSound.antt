@@ -10,7 +10,7 @@ use Rattle.wf_table.specs.declared.process.Label.{Label}
 use Rattle.wf_table.specs.declared.process.Label.TheVariants.{Next, Post}
 use Rattle.wf_table.specs.declared.process.Sizes.{Sizes}
 use Rattle.wf_table.specs.Meaning.{Meaning}
-use Rattle.wf_table.specs.Table.{Process, open_call}
+use Rattle.wf_table.specs.StepTable.{Process, open_call}
 use Rattle.wf_history.specs.History.{Event}
 use Rattle.wf_table.specs.Object.{State}
 use Rattle.wf_table.specs.Ranges.{IsInRange}

@@ -8,7 +8,7 @@ use Rattle.wf_table.specs.declared.process.Label.{Label}
 use Rattle.wf_table.specs.declared.process.Label.TheVariants.{Next, Post, Enter, Body}
 use Rattle.wf_table.specs.declared.process.Sizes.{Sizes}
 use Rattle.wf_table.specs.Meaning.{Meaning}
-use Rattle.wf_table.specs.Table.{Process, call_at, row, to}
+use Rattle.wf_table.specs.StepTable.{Process, call_at, row, to}
 use Rattle.wf_table.specs.Spent.{has_more, one_more}
 use Rattle.wf_table.specs.Counted.{Counts, counts_after}
 use Rattle.wf_table.specs.Limit.{SumsBodies}

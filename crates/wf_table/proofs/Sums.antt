@@ -2,7 +2,7 @@
 use Rattle.std.proofs.Common.{◌≡◌, ℕ, ◌+◌, ◌-◌, ◌*◌, ◌^◌, ◌<◌, ◌≤◌, refl, ap, ◌∙◌, arith}
 use Rattle.std.proofs.Math.Nat.{mul-le-mul_left, mul-le-mul_right}
 use Rattle.wf_table.specs.declared.process.Sizes.{Sizes}
-use Rattle.wf_table.specs.Table.{block_words}
+use Rattle.wf_table.specs.StepTable.{block_words}
 use Rattle.wf_table.specs.Ranges.{IsSized}
 use Rattle.wf_table.specs.Left.{serve, lap, serves_left, laps_left}
 use Rattle.wf_table.specs.Bound.{sharp, bound, bodies_in}

@@ -5,7 +5,7 @@ use Rattle.ob_interface.specs.Call.{ObjectCall}
 use Rattle.wf_table.specs.declared.process.Sizes.{Sizes}
 use Rattle.wf_table.specs.Meaning.{Meaning}
 use Rattle.wf_table.specs.Law.{Effects, IsLawful}
-use Rattle.wf_table.specs.Table.{Process}
+use Rattle.wf_table.specs.StepTable.{Process}
 use Rattle.wf_table.specs.Object.{State, step_by, submit_by}
 use Rattle.wf_table.specs.Runs.{act_of, run, Act, Steps, Submits, ActFits, ActsFit, IsRun}
 use Rattle.wf_table.specs.Sound.{IsSound}

@@ -6,10 +6,10 @@ use Rattle.std.proofs.lemmas.Bool.{cases_lt}
 use Rattle.std.proofs.lemmas.List.{get_or-set_same}
 use Rattle.ll_cell.specs.Cell.{Cell, own_of, word_at, refilled}
 use Rattle.wf_table.specs.declared.process.Sizes.{Sizes}
-use Rattle.wf_table.specs.Table.{toggle_place, part, block_words, own_block, Own, Refill, cell_after}
+use Rattle.wf_table.specs.StepTable.{toggle_place, part, block_words, own_block, Own, Refill, cell_after}
 use Rattle.wf_table.proofs.Words.{refilled_behind, toggle_within}
-use Rattle.wf_table.specs.Commits.{own_toggles}
-use Rattle.wf_table.proofs.CommitsSteps.{word_stays}
+use Rattle.wf_table.specs.HelpAndOrder.{own_toggles}
+use Rattle.wf_table.proofs.HelpAndOrderSteps.{word_stays}
 
 -- a place of one part is the toggle's place of a part in one way alone
 same_part : (v w j k i : ℕ) → i < w + 2 → v + j * (w + 2) + i ≡ v + k * (w + 2) + (w + 1) → (j ≡ k) × (i ≡ w + 1)

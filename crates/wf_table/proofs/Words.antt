@@ -7,7 +7,7 @@ use Rattle.std.proofs.lemmas.Bool.Decides.{nat_tests}
 use Rattle.std.proofs.lemmas.List.{take_all}
 use Rattle.ll_cell.specs.Cell.{word_at, refilled}
 use Rattle.wf_table.specs.declared.process.Sizes.{Sizes}
-use Rattle.wf_table.specs.Table.{toggle_place, block_words, part, inverted}
+use Rattle.wf_table.specs.StepTable.{toggle_place, block_words, part, inverted}
 use Rattle.wf_table.specs.Toggles.{IsBit}
 
 -- words that are all the same

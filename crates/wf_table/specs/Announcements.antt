@@ -6,7 +6,7 @@ use Rattle.wf_table.specs.declared.process.Label.TheVariants.{Next, Post}
 use Rattle.wf_table.specs.declared.process.Sizes.{Sizes}
 use Rattle.wf_table.specs.Labels.{at_post}
 use Rattle.wf_table.specs.Meaning.{Meaning}
-use Rattle.wf_table.specs.Table.{Process, open_call}
+use Rattle.wf_table.specs.StepTable.{Process, open_call}
 
 -- how many words of the open call are announced
 abbrev pub words_laid : Sizes → Label → ℕ → ℕ

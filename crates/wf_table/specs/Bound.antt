@@ -4,7 +4,7 @@ use Rattle.wf_table.specs.declared.process.Label.{Label}
 use Rattle.wf_table.specs.declared.process.Label.TheVariants.{Next, Post, Flip, Try, Link, Load, Store, Check1, Mine, Seen, Fetch, Check2, Save, Enter, Body, Undo, Keep, Commit, Read, Take, Give}
 use Rattle.wf_table.specs.declared.process.Registers.{Registers}
 use Rattle.wf_table.specs.declared.process.Sizes.{Sizes}
-use Rattle.wf_table.specs.Table.{Process, block_words}
+use Rattle.wf_table.specs.StepTable.{Process, block_words}
 use Rattle.wf_table.specs.declared.spent.Spent.{Spent}
 use Rattle.wf_table.specs.Each.{Each}
 use Rattle.wf_table.specs.Left.{left_to}

@@ -8,7 +8,7 @@ use Rattle.wf_history.specs.History.{Event}
 use Rattle.wf_history.specs.Legal.{NoRepeats, OneAtATime, HasBegun}
 use Rattle.wf_table.specs.declared.process.Sizes.{Sizes}
 use Rattle.wf_table.specs.Meaning.{Meaning}
-use Rattle.wf_table.specs.Table.{part}
+use Rattle.wf_table.specs.StepTable.{part}
 use Rattle.wf_table.specs.HelpAlone.{Alone}
 
 -- the words of the last call of the process in a list; the first ones where it has none. Each call has its words in turn

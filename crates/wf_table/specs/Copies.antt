@@ -2,7 +2,7 @@
 use Rattle.std.specs.Prelude.{◌≡◌, ℕ, ◌<◌, Bool, true, ℤ, List}
 use Rattle.ll_cell.specs.Cell.{Cell, is_linked, block_of, word_at}
 use Rattle.wf_table.specs.Labels.{in_round, copying, at_store}
-use Rattle.wf_table.specs.Table.{Process, own_block}
+use Rattle.wf_table.specs.StepTable.{Process, own_block}
 
 -- of a process that stands at q and is linked or not
 pub record HoldsRoot {Run : Type 0} (root : ℕ) (linked : Bool) (q : Process Run) : Type 0 where

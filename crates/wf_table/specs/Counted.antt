@@ -3,7 +3,7 @@ use Rattle.std.specs.Prelude.{◌≡◌, ℕ, Bool, List, [], ◌∷◌, length,
 use Rattle.wf_table.specs.declared.process.Label.{Label}
 use Rattle.wf_table.specs.declared.process.Sizes.{Sizes}
 use Rattle.wf_table.specs.Meaning.{Meaning}
-use Rattle.wf_table.specs.Table.{Process}
+use Rattle.wf_table.specs.StepTable.{Process}
 use Rattle.wf_table.specs.Object.{State}
 use Rattle.wf_table.specs.Runs.{Act, Steps, Submits, act_of}
 use Rattle.wf_table.specs.Each.{Each}

@@ -4,7 +4,7 @@ use Rattle.ll_cell.specs.Cell.{Cell, is_linked, announcement_of, word_at}
 use Rattle.wf_table.specs.declared.process.Label.{Label}
 use Rattle.wf_table.specs.declared.process.Label.TheVariants.{Fetch, Check2}
 use Rattle.wf_table.specs.Labels.{fetching}
-use Rattle.wf_table.specs.Table.{Process}
+use Rattle.wf_table.specs.StepTable.{Process}
 use Rattle.wf_table.specs.Object.{State}
 
 -- fetched front, of a process that stands at q and is linked or not, with the announcement of the process that it serves

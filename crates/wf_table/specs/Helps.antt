@@ -13,14 +13,14 @@ use Rattle.wf_table.specs.Labels.{holding, holds_variables, at_keep}
 use Rattle.wf_table.specs.declared.process.Sizes.{Sizes}
 use Rattle.wf_table.specs.declared.engine_turn.EngineTurn.TheVariants.{On}
 use Rattle.wf_table.specs.Meaning.{Meaning, body, kept}
-use Rattle.wf_table.specs.Table.{Process, own_block, toggle_in}
+use Rattle.wf_table.specs.StepTable.{Process, own_block, toggle_in}
 use Rattle.wf_table.specs.Object.{Records, State}
 use Rattle.wf_table.specs.Marks.{applied_in}
 use Rattle.wf_table.specs.Toggles.{flips}
 use Rattle.wf_table.specs.Each.{Each}
 use Rattle.wf_table.specs.Helping.{has_copied, looked_at}
 use Rattle.wf_table.specs.Order.{applied_count}
-use Rattle.wf_table.specs.Commits.{phase}
+use Rattle.wf_table.specs.HelpAndOrder.{phase}
 use Rattle.wf_table.specs.HelpAlone.{Alone}
 use Rattle.wf_table.specs.Contents.{last_words, no_words, reply_word, IsMade, RootHolds}
 

@@ -3,7 +3,7 @@ pub mod Answers
 pub mod Below
 pub mod Bound
 pub mod Calls
-pub mod Commits
+pub mod HelpAndOrder
 pub mod Contents
 pub mod Copies
 pub mod Counted
@@ -31,6 +31,6 @@ pub mod Sound
 pub mod Spent
 pub mod Stands
 pub mod Start
-pub mod Table
+pub mod StepTable
 pub mod TableAlone
 pub mod Toggles

@@ -14,7 +14,7 @@ use Rattle.wf_table.specs.declared.schedule.Turns.{Turns}
 use Rattle.wf_table.specs.Labels.{at_next, at_flip}
 use Rattle.wf_table.specs.Schedule.{counted}
 use Rattle.wf_table.specs.Meaning.{Meaning, values_in}
-use Rattle.wf_table.specs.Table.{Process, cell_after, row, own_block, toggle_in, open_call, call_at}
+use Rattle.wf_table.specs.StepTable.{Process, cell_after, row, own_block, toggle_in, open_call, call_at}
 
 -- what was seen, the order, and who stepped; the history's length at each process's last FLIP, and for each block
 -- its length behind the Applied event that last made it the root (0 where none did)

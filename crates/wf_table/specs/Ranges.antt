@@ -7,7 +7,7 @@ use Rattle.wf_table.specs.declared.process.Label.TheVariants.{Next, Post, Flip, 
 use Rattle.wf_table.specs.declared.process.Registers.{Registers}
 use Rattle.wf_table.specs.declared.process.Sizes.{Sizes}
 use Rattle.wf_table.specs.Labels.{at_next, in_try}
-use Rattle.wf_table.specs.Table.{Process, block_words}
+use Rattle.wf_table.specs.StepTable.{Process, block_words}
 
 pub record IsSized (z : Sizes) : Type 0 where
   pub processes : z.processes ≤ most_processes

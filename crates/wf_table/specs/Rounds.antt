@@ -3,7 +3,7 @@
 use Rattle.std.specs.Prelude.{◌≡◌, ℕ, ◌+◌, ◌≤◌, Bool, if◌then◌else◌}
 use Rattle.wf_table.specs.declared.process.Label.{Label}
 use Rattle.wf_table.specs.declared.process.Label.TheVariants.{Next, Post, Flip, Link}
-use Rattle.wf_table.specs.Table.{Process}
+use Rattle.wf_table.specs.StepTable.{Process}
 
 -- a step at the label; at NEXT it begins a call, which has no round yet, or is halted
 abbrev pub rounds_after : Label → Bool → ℕ → ℕ

@@ -4,7 +4,7 @@ use Rattle.ob_interface.specs.Call.{ObjectCall, Reply}
 use Rattle.wf_history.specs.History.{Event, in_turn, own_events, own_calls}
 use Rattle.wf_table.specs.declared.process.Label.{Label}
 use Rattle.wf_table.specs.Labels.{at_next}
-use Rattle.wf_table.specs.Table.{Process, call_at}
+use Rattle.wf_table.specs.StepTable.{Process, call_at}
 
 -- every call of the script fits the engine
 pub record CallsFit {Run : Type 0} (fits : ObjectCall → Type 0) (q : Process Run) : Type 0 where

@@ -7,10 +7,10 @@ use Rattle.wf_history.specs.Legal.{NoRepeats, OneAtATime, HasBegun}
 use Rattle.wf_table.specs.declared.process.Sizes.{Sizes}
 use Rattle.wf_table.specs.Meaning.{Meaning}
 use Rattle.wf_table.specs.Law.{Effects}
-use Rattle.wf_table.specs.Table.{Process, own_block, toggle_in, announced_toggle, open_call}
+use Rattle.wf_table.specs.StepTable.{Process, own_block, toggle_in, announced_toggle, open_call}
 use Rattle.wf_table.specs.Object.{State}
 use Rattle.wf_table.specs.Helping.{Settled}
-use Rattle.wf_table.specs.Commits.{phase}
+use Rattle.wf_table.specs.HelpAndOrder.{phase}
 use Rattle.wf_table.specs.HelpAlone.{Alone}
 
 module _ {Run : Type 0} (m : Meaning Run) (z : Sizes) (s : State Run) where

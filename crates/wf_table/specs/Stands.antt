@@ -6,13 +6,13 @@ use Rattle.wf_history.specs.declared.event.CallId.{CallId}
 use Rattle.wf_table.specs.declared.process.Label.{Label}
 use Rattle.wf_table.specs.declared.process.Label.TheVariants.{Take, Give}
 use Rattle.wf_table.specs.declared.process.Sizes.{Sizes}
-use Rattle.wf_table.specs.Table.{Process, part}
+use Rattle.wf_table.specs.StepTable.{Process, part}
 use Rattle.wf_table.specs.Object.{Records}
 use Rattle.wf_table.specs.Marks.{applied_in}
 use Rattle.wf_table.specs.Labels.{copying, at_store, taking}
 use Rattle.wf_table.specs.Each.{Each}
 use Rattle.wf_table.specs.Helping.{Serving, has_copied}
-use Rattle.wf_table.specs.Commits.{phase, announced_call}
+use Rattle.wf_table.specs.HelpAndOrder.{phase, announced_call}
 
 -- the calls that were applied when the block last became the root
 abbrev pub since : Records → ℕ → List CallId

@@ -4,7 +4,7 @@ use Rattle.ll_cell.specs.Cell.{Cell, fresh, refill_own, link, exchange}
 use Rattle.wf_table.specs.declared.process.Label.TheVariants.{Next}
 use Rattle.wf_table.specs.declared.process.Sizes.{Sizes}
 use Rattle.wf_table.specs.Meaning.{Meaning}
-use Rattle.wf_table.specs.Table.{Process, block_words}
+use Rattle.wf_table.specs.StepTable.{Process, block_words}
 use Rattle.wf_table.specs.Object.{State, Records}
 use Rattle.wf_table.specs.Each.{Each}
 

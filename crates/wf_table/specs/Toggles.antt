@@ -3,7 +3,7 @@ use Rattle.std.specs.Prelude.{◌≡◌, ℕ, ◌+◌, ◌-◌, ◌%◌, ◌<◌
 use Rattle.ll_cell.specs.Cell.{Cell, block_of}
 use Rattle.wf_table.specs.declared.process.Sizes.{Sizes}
 use Rattle.wf_table.specs.Labels.{at_store, unannounced}
-use Rattle.wf_table.specs.Table.{Process, toggle_place, toggle_in, announced_toggle}
+use Rattle.wf_table.specs.StepTable.{Process, toggle_place, toggle_in, announced_toggle}
 
 abbrev pub IsBit : ℤ → Type 0
 IsBit w = (w ≡ pos 0) ⊎ (w ≡ pos 1)

@@ -14,7 +14,7 @@ use Rattle.wf_table.specs.declared.process.Label.TheVariants.{Body}
 use Rattle.wf_table.specs.declared.process.Sizes.{Sizes}
 use Rattle.wf_table.specs.Meaning.{Turned, Meaning, is_over, body}
 use Rattle.wf_table.specs.Law.{Effects, IsLawful}
-use Rattle.wf_table.specs.Table.{Process, own_block}
+use Rattle.wf_table.specs.StepTable.{Process, own_block}
 use Rattle.wf_table.specs.Object.{State, script_of}
 use Rattle.wf_table.specs.Runs.{Act, ActsFit, run, IsRun}
 use Rattle.wf_table.specs.Each.{Each}

@@ -20,12 +20,12 @@ use Rattle.wf_table.specs.Runs.{Act, IsRun}
 use Rattle.wf_table.specs.Start.{sizes_of}
 use Rattle.wf_table.specs.Toggles.{flips}
 use Rattle.wf_table.proofs.TableRuns.{run_sound}
-use Rattle.wf_table.specs.Commits.{phase, flips_at}
+use Rattle.wf_table.specs.HelpAndOrder.{phase, flips_at}
 use Rattle.wf_table.specs.Helping.{Settled}
 use Rattle.wf_table.specs.Order.{own_numbers, applied_count}
 use Rattle.wf_table.proofs.Numbers.{in_order}
-use Rattle.wf_table.proofs.CommitsRuns.{run_committed}
-use Rattle.wf_table.proofs.CommitsSteps.{member, flips_is}
+use Rattle.wf_table.proofs.HelpAndOrderRuns.{run_committed}
+use Rattle.wf_table.proofs.HelpAndOrderSteps.{member, flips_is}
 use Rattle.wf_table.proofs.HelpRuns.{run_helped}
 use Rattle.wf_theorems.specs.FirstCalls.{AreFirstCalls, first_ids, own_ids, submitted}
 use Rattle.wf_theorems.proofs.Scripts.{begun_of_script}

@@ -9,7 +9,7 @@ use Rattle.wf_table.specs.declared.process.Label.TheVariants.{Next, Post}
 use Rattle.wf_table.specs.declared.process.Sizes.{Sizes}
 use Rattle.wf_table.specs.Meaning.{Meaning}
 use Rattle.wf_table.specs.Schedule.{counted}
-use Rattle.wf_table.specs.Table.{Process, cell_after, row, call_at}
+use Rattle.wf_table.specs.StepTable.{Process, cell_after, row, call_at}
 use Rattle.wf_table.specs.Object.{State, noted, event_at, step_of, step_by}
 use Rattle.wf_table.proofs.Stuck.{set_same}
 

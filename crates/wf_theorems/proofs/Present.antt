@@ -14,14 +14,14 @@ use Rattle.wf_table.specs.declared.process.Label.TheVariants.{Enter, Body}
 use Rattle.wf_table.specs.declared.process.Sizes.{Sizes}
 use Rattle.wf_table.specs.Meaning.{Turned, Meaning, steps, body}
 use Rattle.wf_table.specs.Law.{Effects, IsLawful}
-use Rattle.wf_table.specs.Table.{Process, Change, Refill, Exchanges, cell_after, row, own_block, block_words, body_turn, after_body, to}
+use Rattle.wf_table.specs.StepTable.{Process, Change, Refill, Exchanges, cell_after, row, own_block, block_words, body_turn, after_body, to}
 use Rattle.wf_table.specs.Object.{State, step_by, submit_by}
 use Rattle.wf_table.specs.Runs.{Act, Steps, Submits, act_of}
 use Rattle.wf_table.specs.Each.{Each}
 use Rattle.wf_table.specs.Sound.{IsSound}
 use Rattle.wf_table.proofs.Frame.{each_after}
 use Rattle.wf_table.specs.Toggles.{flips}
-use Rattle.wf_table.proofs.CommitsSteps.{same_own}
+use Rattle.wf_table.proofs.HelpAndOrderSteps.{same_own}
 use Rattle.wf_table.specs.Spent.{has_more, one_more, body_steps_after}
 use Rattle.wf_table.specs.Labels.{at_body}
 use Rattle.wf_table.specs.Counted.{Counts, uncounted, counts_after, counts_of, count_by, count_act}

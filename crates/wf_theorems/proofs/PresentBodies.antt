@@ -12,7 +12,7 @@ use Rattle.wf_table.specs.declared.process.Sizes.{Sizes}
 use Rattle.wf_table.specs.Meaning.{Turned, Meaning}
 use Rattle.wf_table.specs.Law.{Effects, IsLawful}
 use Rattle.wf_table.specs.Labels.{at_body}
-use Rattle.wf_table.specs.Table.{Process, own_block, body_turn}
+use Rattle.wf_table.specs.StepTable.{Process, own_block, body_turn}
 use Rattle.wf_table.specs.Object.{State}
 use Rattle.wf_table.specs.Runs.{Act, ActsFit, run, IsRun}
 use Rattle.wf_table.specs.Each.{Each}

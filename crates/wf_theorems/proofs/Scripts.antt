@@ -11,13 +11,13 @@ use Rattle.wf_history.specs.History.{Begin}
 use Rattle.wf_history.specs.Legal.{HasBegun}
 use Rattle.wf_table.specs.declared.process.Sizes.{Sizes}
 use Rattle.wf_table.specs.Meaning.{Meaning}
-use Rattle.wf_table.specs.Table.{Process, row}
+use Rattle.wf_table.specs.StepTable.{Process, row}
 use Rattle.wf_table.specs.Object.{State, step_by, submit_by, script_of, script_by}
 use Rattle.wf_table.specs.Runs.{Act, Steps, Submits, act_of, run}
 use Rattle.wf_table.specs.Below.{EventBelow}
 use Rattle.wf_table.specs.Sound.{IsSound}
 use Rattle.wf_table.proofs.Moves.{same_calls}
-use Rattle.wf_table.proofs.CommitsSteps.{member}
+use Rattle.wf_table.proofs.HelpAndOrderSteps.{member}
 use Rattle.wf_table.specs.Ends.{IsCallOf}
 use Rattle.wf_table.proofs.BoundPlaces.{put_at, still_at}
 use Rattle.wf_table.proofs.Unique.{call_is, of_script}

@@ -9,7 +9,7 @@ use Rattle.wf_table.specs.declared.process.Sizes.{Sizes}
 use Rattle.wf_table.specs.Meaning.{Meaning}
 use Rattle.wf_table.specs.Object.{State, script_by, script_of, step_by, submit_by}
 use Rattle.wf_table.specs.Runs.{Act, Steps, Submits, act_of, run}
-use Rattle.wf_table.specs.Table.{Process, row}
+use Rattle.wf_table.specs.StepTable.{Process, row}
 use Rattle.wf_table.proofs.Moves.{same_calls}
 use Rattle.wf_table.proofs.BoundPlaces.{put_at, still_at}
 use Rattle.wf_theorems.specs.FirstCalls.{submitted}

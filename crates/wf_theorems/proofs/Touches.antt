@@ -7,7 +7,7 @@ use Rattle.wf_table.specs.declared.process.Label.TheVariants.{Next, Post, Flip, 
 use Rattle.wf_table.specs.declared.process.Sizes.{Sizes}
 use Rattle.wf_table.specs.Meaning.{Meaning, Turned}
 use Rattle.wf_table.specs.Labels.{at_body}
-use Rattle.wf_table.specs.Table.{Process, Own, Refill, Announce, Links, Exchanges, Move, moved, after_body, cell_after, row}
+use Rattle.wf_table.specs.StepTable.{Process, Own, Refill, Announce, Links, Exchanges, Move, moved, after_body, cell_after, row}
 use Rattle.wf_table.proofs.Words.{written}
 use Rattle.wf_theorems.specs.Touches.{Word, Root, OfBlock, OfAnnouncement, Touch, touch, HaveSameOwn, ShowSameRead, IsAsBefore, IsWritten, Touches}
 

@@ -10,7 +10,7 @@ use Rattle.wf_table.specs.declared.process.Label.TheVariants.{Body}
 use Rattle.wf_table.specs.declared.process.Sizes.{Sizes}
 use Rattle.wf_table.specs.Meaning.{Meaning, Turned}
 use Rattle.wf_table.specs.Law.{Effects, IsLawful, TouchesOneWord}
-use Rattle.wf_table.specs.Table.{Process, Refill, cell_after, own_block}
+use Rattle.wf_table.specs.StepTable.{Process, Refill, cell_after, own_block}
 use Rattle.wf_table.specs.Object.{State}
 use Rattle.wf_table.specs.Sound.{IsSound}
 use Rattle.wf_table.proofs.Words.{set_or}

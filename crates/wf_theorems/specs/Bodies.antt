@@ -12,7 +12,7 @@ use Rattle.wf_table.specs.declared.engine_turn.EngineTurn.TheVariants as Turn
 use Rattle.wf_table.specs.Meaning.{body}
 use Rattle.wf_table.specs.Law.{Reaches, ReachesTrap}
 use Rattle.wf_table.specs.TableAlone.{EndsAlone}
-use Rattle.wf_table.specs.Table.{Process, own_block, body_turn}
+use Rattle.wf_table.specs.StepTable.{Process, own_block, body_turn}
 use Rattle.wf_table.specs.Object.{State, step_of, stepped, label_of}
 use Rattle.wf_table.specs.Schedule.{counted}
 use Rattle.wf_table.specs.Start.{sizes_of}

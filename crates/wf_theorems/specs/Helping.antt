@@ -3,13 +3,13 @@ use Rattle.std.specs.Prelude.{◌≡◌, ℕ, ◌%◌, ◌<◌, ℤ, pos, true, 
 use Rattle.ll_cell.specs.Cell.{is_linked, block_of}
 use Rattle.wf_table.specs.declared.process.Sizes.{Sizes}
 use Rattle.wf_table.specs.declared.process.Label.TheVariants as Place
-use Rattle.wf_table.specs.Table.{Process, toggle_in}
+use Rattle.wf_table.specs.StepTable.{Process, toggle_in}
 use Rattle.wf_table.specs.Runs.{Act, IsRun}
 use Rattle.wf_table.specs.Object.{State}
 use Rattle.wf_table.specs.Sound.{IsSound}
 use Rattle.wf_table.specs.Start.{sizes_of}
 use Rattle.wf_table.specs.Order.{applied_count}
-use Rattle.wf_table.specs.Commits.{IsCommitted}
+use Rattle.wf_table.specs.HelpAndOrder.{IsCommitted}
 use Rattle.wf_table.specs.Contents.{RootHolds}
 use Rattle.wf_table.specs.Helps.{IsHelped}
 use Rattle.wf_table.specs.Served.{ServesOpen, MakesAnother, OrderLeads}

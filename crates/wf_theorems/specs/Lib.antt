@@ -1,6 +1,6 @@
 pub mod Bodies
 pub mod Coded
-pub mod Commits
+pub mod Exchanges
 pub mod FirstCalls
 pub mod Helping
 pub mod Limits

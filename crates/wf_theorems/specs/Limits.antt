@@ -12,7 +12,7 @@ use Rattle.wf_table.specs.Object.{State, script_of}
 use Rattle.wf_table.specs.Ranges.{IsSized, IsInRange}
 use Rattle.wf_table.specs.Runs.{Act, IsRun, run}
 use Rattle.wf_table.specs.Start.{sizes_of}
-use Rattle.wf_table.specs.Table.{Process, row}
+use Rattle.wf_table.specs.StepTable.{Process, row}
 use Rattle.wf_table.specs.Counted.{counted_from, counted_run, counts_of}
 use Rattle.wf_table.specs.Ends.{AllEndWithin, IsCallOf, IsReachedWithout}
 use Rattle.wf_table.specs.Left.{left_to}

@@ -6,7 +6,7 @@ use Rattle.wf_table.specs.declared.process.Sizes.{Sizes}
 use Rattle.wf_table.specs.Each.{Each}
 use Rattle.wf_table.specs.Meaning.{Meaning}
 use Rattle.wf_table.specs.Object.{State}
-use Rattle.wf_table.specs.Table.{body_turn}
+use Rattle.wf_table.specs.StepTable.{body_turn}
 
 -- the next step of each process that stands at BODY is none of a stuck body
 abbrev pub IsNeverStuck : {Run : Type 0} → Meaning Run → Sizes → State Run → Type 0

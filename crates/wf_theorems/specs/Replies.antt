@@ -3,13 +3,13 @@ use Rattle.std.specs.Prelude.{◌≡◌, ℕ, ◌+◌, ◌<◌, ℤ, List, [], s
 use Rattle.ll_cell.specs.Cell.{block_of, word_at}
 use Rattle.wf_table.specs.declared.process.Sizes.{Sizes}
 use Rattle.wf_table.specs.declared.process.Label.TheVariants as Place
-use Rattle.wf_table.specs.Table.{Process, part, toggle_in, announced_toggle}
+use Rattle.wf_table.specs.StepTable.{Process, part, toggle_in, announced_toggle}
 use Rattle.wf_table.specs.Runs.{Act, ActsFit, run, IsRun}
 use Rattle.wf_table.specs.Object.{State}
 use Rattle.wf_table.specs.Sound.{IsSound}
 use Rattle.wf_table.specs.Start.{sizes_of}
 use Rattle.wf_table.specs.Order.{IsAt}
-use Rattle.wf_table.specs.Commits.{IsCommitted, announced_call, flips_at}
+use Rattle.wf_table.specs.HelpAndOrder.{IsCommitted, announced_call, flips_at}
 use Rattle.wf_table.specs.Stands.{IsStanding, Stands, InPart, word_in}
 use Rattle.wf_table.specs.Contents.{RootHolds, reply_word}
 use Rattle.wf_table.specs.Meaning.{Meaning}

@@ -11,7 +11,7 @@ use Rattle.wf_table.specs.Meaning.{Meaning}
 use Rattle.wf_table.specs.Labels.{at_body}
 use Rattle.wf_table.specs.Object.{State}
 use Rattle.wf_table.specs.Sound.{IsSound}
-use Rattle.wf_table.specs.Table.{Process, cell_after, own_block, part, row}
+use Rattle.wf_table.specs.StepTable.{Process, cell_after, own_block, part, row}
 
 -- the root, with the own block numbers and the links to it; word i of a block; word i of a process's announcement
 pub data Word : Type 0 where

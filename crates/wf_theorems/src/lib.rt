@@ -5,7 +5,7 @@
 pub mod alone;
 pub mod bound;
 pub mod coded;
-pub mod commits;
+pub mod exchanges;
 pub mod help;
 pub mod runs;
 pub mod standing;

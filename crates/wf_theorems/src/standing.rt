@@ -2,7 +2,7 @@
 
 ghost use Rattle.std.specs.Prelude.{ℕ};
 ghost use Rattle.wf_table.specs.declared.process.Sizes.{Sizes};
-ghost use Rattle.wf_table.specs.Table.{Process};
+ghost use Rattle.wf_table.specs.StepTable.{Process};
 ghost use Rattle.wf_table.specs.Object.{State};
 ghost use Rattle.wf_theorems.specs.Replies.{EveryOrderIsLegal, EveryRunIsStanding, GivenStands, RepliesStand, RootHasReply, RootHasToggle};
 

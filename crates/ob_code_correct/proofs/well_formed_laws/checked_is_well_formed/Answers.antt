@@ -1,7 +1,7 @@
 use Rattle.std.proofs.Common.{subst}
 use Rattle.std.proofs.Math.Logic.{∥∥₁_map}
 use Rattle.ob_checked.specs.CheckedModule.{program_in}
-use Rattle.ob_grammar.specs.Conditions.{KeepsConditions}
+use Rattle.ob_grammar.specs.EndNamesAndNesting.{KeepsConditions}
 use Rattle.ob_grammar.specs.Texts.{HasText}
 use Rattle.ob_code_correct.proofs.well_formed_laws.checked_is_well_formed.Goals as goal
 

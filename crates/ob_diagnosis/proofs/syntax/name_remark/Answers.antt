@@ -8,5 +8,9 @@ told-requires c = record {
   is_open = c.open_around-opening.ensures;
   keyword = c.kind_or_name.ensures;
   line = c.line_of.ensures;
-  noted = rw (c.of_facts.ensures, c.deref.ensures.value, c.in_ok-facts.ensures, c.is_token.ensures, c.is_token-2.ensures, c.is_kind.ensures, c.end_name-name.ensures) refl;
+  lone = c.lone_end-lone.result;
+  are_lone = c.lone_end-lone.ensures;
+  lone_name = c.word_of-lone_name.ensures;
+  lone_line = c.line_of-lone_line.ensures;
+  noted = rw (c.of_facts.ensures, c.deref.ensures.value, c.in_ok-facts.ensures, c.is_token.ensures, c.is_token-2.ensures, c.is_token-3.ensures, c.is_kind.ensures, c.end_name-name.ensures) refl;
 }

@@ -1,5 +1,5 @@
 use Rattle.std.proofs.Common.{refl}
-use Rattle.ob_messages.specs.Said.{evidence_of}
+use Rattle.ob_explain_sentences.specs.Said.{evidence_of}
 use Rattle.ob_diagnosis.proofs.told_by_tables.told_by.Goals as goal
 
 pub returns : goal.returns

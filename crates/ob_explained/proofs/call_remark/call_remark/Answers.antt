@@ -1,7 +1,7 @@
 use Rattle.std.proofs.Common.{List, subst, option_map}
 use Rattle.std.proofs.lemmas.Result.{IfOk-weaker}
 use Rattle.ob_checked.specs.CheckedModule.{program_in}
-use Rattle.ob_messages.specs.Remarks.{remark_of}
+use Rattle.ob_explain_sentences.specs.Remarks.{remark_of}
 use Rattle.ob_explained.specs.CallRemarks.{IsExportsRemark, of_module}
 use Rattle.ob_interface.specs.Export.{Signature}
 use Rattle.ob_explained.proofs.call_remark.call_remark.Goals as goal

@@ -1,6 +1,6 @@
 use Rattle.std.proofs.Common.{Option, sym, subst, ◌∙◌}
 use Rattle.std.proofs.lemmas.Result.{IfOk-weaker}
-use Rattle.ob_messages.specs.Remarks.{Remark}
+use Rattle.ob_explain_sentences.specs.Remarks.{Remark}
 use Rattle.ob_explained.specs.CallRemarks.{IsCallRemark, of_none}
 use Rattle.ob_explained.proofs.call_remark.no_exports.Goals as goal
 

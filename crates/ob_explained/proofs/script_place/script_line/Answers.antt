@@ -1,6 +1,6 @@
 use Rattle.std.proofs.Common.{◌≡◌, ◌+◌, ◌-◌, ◌∙◌, ap, arith, take}
 use Rattle.ob_text_words.specs.Words.{lines}
-use Rattle.ob_messages.specs.Places.{line_from}
+use Rattle.ob_explain_sentences.specs.Places.{line_from}
 use Rattle.ob_explained.specs.ScriptPlaces.{behind_feeds}
 use Rattle.ob_explained.proofs.Feeds.{begun, line_told}
 use Rattle.ob_explained.proofs.Lines.{shown_in}

@@ -1,5 +1,5 @@
 use Rattle.std.proofs.Common.{ℕ, ap, string_bytes}
-use Rattle.ob_messages.specs.Remarks.{at}
+use Rattle.ob_explain_sentences.specs.Remarks.{at}
 use Rattle.ob_explained_records.proofs.history_remark.told_form.Goals as goal
 
 pub returns-in-Some : goal.returns-in-Some

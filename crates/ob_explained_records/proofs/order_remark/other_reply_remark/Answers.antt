@@ -1,6 +1,6 @@
 use Rattle.std.proofs.Common.{◌∙◌, List, ℕ, option_map, subst}
 use Rattle.std.proofs.lemmas.Result.{IfOk-weaker}
-use Rattle.ob_messages.specs.Remarks.{remark_of}
+use Rattle.ob_explain_sentences.specs.Remarks.{remark_of}
 use Rattle.ob_object_calls.specs.View.{made_of}
 use Rattle.ob_explained_records.specs.OrderRemarks.{IsEndRemark}
 use Rattle.ob_explained_records.proofs.order_remark.other_reply_remark.Goals as goal

@@ -1,6 +1,6 @@
 use Rattle.std.proofs.Common.{◌∙◌, List, ℕ, false, option_map, subst}
 use Rattle.std.proofs.lemmas.Result.{IfOk-weaker}
-use Rattle.ob_messages.specs.Remarks.{remark_of}
+use Rattle.ob_explain_sentences.specs.Remarks.{remark_of}
 use Rattle.ob_explained_records.specs.OrderRemarks.{IsOrderLineRemark}
 use Rattle.ob_explained_records.proofs.order_remark.too_early_remark.Goals as goal
 

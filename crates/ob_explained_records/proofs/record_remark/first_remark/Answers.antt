@@ -1,6 +1,6 @@
 use Rattle.std.proofs.Common.{◌≡◌, ◌∙◌, ◌+◌, ◌-◌, ℕ, ap, ap₂, drop, length, rules, string_bytes, take}
 use Rattle.std.proofs.lemmas.List.{take_rest}
-use Rattle.ob_messages.specs.Remarks.{at}
+use Rattle.ob_explain_sentences.specs.Remarks.{at}
 use Rattle.ob_explained.specs.ScriptPlaces.{first_place, in_line}
 use Rattle.ob_explained_records.specs.FormRemarks.{form_sentence, from_word, line_at, own_number}
 use Rattle.ob_explained_records.proofs.record_remark.first_remark.Goals as goal

@@ -5,7 +5,7 @@ use Rattle.ob_checked.specs.CheckedModule.{program_in, tree_in}
 use Rattle.ob_explained.specs.Sources.{source_of}
 use Rattle.ob_mean.specs.View.{call_of}
 use Rattle.ob_store.specs.View.{state_of}
-use Rattle.ob_traps.specs.Reaching.{site_of}
+use Rattle.ob_trap_places.specs.Reaching.{site_of}
 use Rattle.ob_explained_traps.specs.RecordTraps.{order_text}
 use Rattle.ob_explained_traps.proofs.TrapsOfCalls.{sites_long}
 use Rattle.ob_explained_traps.proofs.record_traps.told_from.Goals as goal

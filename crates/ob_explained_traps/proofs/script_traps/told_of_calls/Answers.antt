@@ -6,7 +6,7 @@ use Rattle.ob_grammar.specs.View.{module_of}
 use Rattle.ob_mean.specs.View.{call_of}
 use Rattle.ob_object_compile.specs.View.{object_in}
 use Rattle.ob_store.specs.View.{state_of}
-use Rattle.ob_traps.specs.Reaching.{site_of}
+use Rattle.ob_trap_places.specs.Reaching.{site_of}
 use Rattle.ob_explained_traps.proofs.TrapsOfCalls.{asked_long, callers_long, lines_of_calls, sites_long}
 use Rattle.ob_explained_traps.proofs.script_traps.told_of_calls.Goals as goal
 

@@ -1,7 +1,7 @@
 -- The places of the calls so far.
 use Rattle.std.proofs.Common.{◌≡◌, map, option_map, take}
 use Rattle.ob_grammar.specs.View.{module_of}
-use Rattle.ob_traps.specs.Reaching.{site_of}
+use Rattle.ob_trap_places.specs.Reaching.{site_of}
 use Rattle.ob_explained_traps.specs.TrapPlaces.{spot_of}
 use Rattle.ob_explained_traps.proofs.spots.spots_of.Given as goal
 

@@ -1,8 +1,8 @@
 use Rattle.std.proofs.Common.{◌≡◌, ◌∙◌, ℕ, ◌<◌, ◌+◌, ◌++◌, Option, None, ap, arith, length, map, sym}
 use Rattle.std.specs.Prelude.{option_map}
 use Rattle.std.proofs.lemmas.List.{get_or-map, length-map}
-use Rattle.ob_traps.specs.Reaching.{site_of}
-use Rattle.ob_traps.specs.Site.{Site}
+use Rattle.ob_trap_places.specs.Reaching.{site_of}
+use Rattle.ob_trap_places.specs.Site.{Site}
 use Rattle.ob_explained_traps.specs.NamedCalls.{AreSoMany, Calls, HasCall, OfRecord, OfScript, calls_of}
 use Rattle.ob_explained_traps.specs.TrapLines.{lines_at, lines_if_first, setting_of}
 use Rattle.ob_explained_traps.specs.TrapPlaces.{is_first, spots_of}

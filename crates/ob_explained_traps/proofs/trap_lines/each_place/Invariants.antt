@@ -3,7 +3,7 @@ use Rattle.std.proofs.Common.{◌≡◌, ◌≤◌, length, map, option_map, str
 use Rattle.ob_explained_traps.proofs.Firsts.{told_below}
 use Rattle.ob_explained_traps.specs.TrapLines.{lines_at, setting_of}
 use Rattle.ob_explained_traps.specs.TrapPlaces.{is_first, spots_of}
-use Rattle.ob_traps.specs.Reaching.{site_of}
+use Rattle.ob_trap_places.specs.Reaching.{site_of}
 use Rattle.ob_explained_traps.proofs.trap_lines.each_place.Given as goal
 
 abbrev pub invariant-loop-position : goal.invariant-loop-position

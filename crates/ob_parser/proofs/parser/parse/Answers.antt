@@ -2,7 +2,7 @@ use Rattle.std.proofs.Common.{◌≡◌, refl, sym, subst}
 use Rattle.ob_grammar.specs.declared.tree.ModuleTree.{ModuleTree}
 use Rattle.ob_grammar.specs.Tree.{Module}
 use Rattle.ob_grammar.specs.Grammar.{Derives}
-use Rattle.ob_grammar.specs.Conditions.{KeepsConditions}
+use Rattle.ob_grammar.specs.EndNamesAndNesting.{KeepsConditions}
 use Rattle.ob_grammar.specs.View.{module_of}
 use Rattle.ob_grammar.proofs.Exits.{passed_on}
 use Rattle.ob_scan.specs.Tokens.{HasTokens}

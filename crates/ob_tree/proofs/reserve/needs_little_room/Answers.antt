@@ -2,7 +2,7 @@ use Rattle.std.proofs.Common.{subst}
 use Rattle.std.proofs.Math.Bridge.{le_prop}
 use Rattle.std.proofs.Math.Logic.{∥∥₁_elim}
 use Rattle.ob_checked.specs.CheckedModule.{program_in}
-use Rattle.ob_grammar.specs.Conditions.{KeepsConditions}
+use Rattle.ob_grammar.specs.EndNamesAndNesting.{KeepsConditions}
 use Rattle.ob_grammar.specs.Texts.{HasText}
 use Rattle.ob_tree.proofs.FewTasks.{little_room}
 use Rattle.ob_tree.proofs.reserve.needs_little_room.Goals as goal

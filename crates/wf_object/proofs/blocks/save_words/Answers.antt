@@ -6,7 +6,7 @@ use Rattle.ll_cell.specs.Cell.{block_of, copied}
 use Rattle.ll_cell.proofs.Copied.{length_copied}
 use Rattle.wf_table.specs.declared.process.Label.{Label}
 use Rattle.wf_table.specs.declared.process.Label.TheVariants.{Enter}
-use Rattle.wf_table.specs.Table.{Process, own_block}
+use Rattle.wf_table.specs.StepTable.{Process, own_block}
 use Rattle.wf_object.specs.View.{process_view}
 use Rattle.wf_object.proofs.Copying.{own_holds, saved_words}
 use Rattle.wf_object.proofs.blocks.save_words.Goals as goal

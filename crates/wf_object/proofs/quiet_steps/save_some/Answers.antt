@@ -2,7 +2,7 @@ use Rattle.std.proofs.Common.{◌+◌, ◌<◌, ◌≤◌, ap, ◌∙◌, arith,
 use Rattle.std.proofs.lemmas.Bool.{cases_lt}
 use Rattle.wf_table.specs.declared.process.Label.{Label}
 use Rattle.wf_table.specs.Ranges.{index_in}
-use Rattle.wf_table.specs.Table.{Process}
+use Rattle.wf_table.specs.StepTable.{Process}
 use Rattle.wf_records.specs.Spending.{outside_more}
 use Rattle.wf_object.specs.Progress.{progress}
 use Rattle.wf_object.proofs.Copying.{saves_unmarked, words_saved}

@@ -1,7 +1,7 @@
 use Rattle.std.proofs.Common.{◌≡◌, ◌+◌, ap, refl, sym, subst, ◌∙◌}
 use Rattle.wf_table.specs.declared.process.Label.{Label}
 use Rattle.wf_table.specs.declared.process.Label.TheVariants.{Try, Link, Store, Check1, Mine, Seen, Fetch, Check2, Enter, Body, Undo, Keep}
-use Rattle.wf_table.specs.Table.{cell_after, check, row}
+use Rattle.wf_table.specs.StepTable.{cell_after, check, row}
 use Rattle.wf_table.specs.declared.spent.Spent.{Spent}
 use Rattle.wf_table.specs.Spent.{has_more, spent_after}
 use Rattle.wf_object.specs.Progress.{progress}

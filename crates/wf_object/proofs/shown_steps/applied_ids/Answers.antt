@@ -4,7 +4,7 @@ use Rattle.std.specs.List.{range_with_len, filter}
 use Rattle.std.proofs.lemmas.Grind.{common_steps}
 use Rattle.ll_cell.specs.Cell.{block_of}
 use Rattle.wf_history.specs.declared.event.CallId.{CallId}
-use Rattle.wf_table.specs.Table.{own_block, toggle_in}
+use Rattle.wf_table.specs.StepTable.{own_block, toggle_in}
 use Rattle.wf_table.specs.Object.{begun_of}
 use Rattle.wf_object.proofs.shown_steps.applied_ids.Goals as goal
 

@@ -3,7 +3,7 @@ use Rattle.std.specs.Prelude.{slice_index, not}
 use Rattle.std.specs.List.{range_with_len, filter}
 use Rattle.std.proofs.Common.{int_eq}
 use Rattle.ll_cell.specs.Cell.{block_of}
-use Rattle.wf_table.specs.Table.{own_block, toggle_in}
+use Rattle.wf_table.specs.StepTable.{own_block, toggle_in}
 use Rattle.wf_table.specs.Object.{begun_of}
 use Rattle.wf_object.proofs.shown_steps.applied_ids.Given as goal
 

@@ -4,7 +4,7 @@ use Rattle.ll_cell.specs.Cell.{is_linked, block_of}
 use Rattle.wf_history.specs.declared.event.CallId.{CallId}
 use Rattle.wf_history.specs.History.{IsHistory, Applied}
 use Rattle.wf_table.specs.Object.{history_after, applied_ids, begun_of}
-use Rattle.wf_table.specs.Table.{own_block}
+use Rattle.wf_table.specs.StepTable.{own_block}
 use Rattle.wf_object.proofs.shown_steps.apply.Goals as goal
 
 pub note_commit-requires-clause-in_turn : goal.note_commit-requires-clause-in_turn

@@ -3,7 +3,7 @@ use Rattle.std.specs.Prelude.{Option, slice_index_or}
 use Rattle.ob_interface.specs.Call.{ObjectCall, Reply}
 use Rattle.wf_history.specs.View.{kept_call}
 use Rattle.wf_history.specs.History.{Event, IsHistory}
-use Rattle.wf_table.specs.Table.{Process}
+use Rattle.wf_table.specs.StepTable.{Process}
 use Rattle.wf_table.specs.Object.{history_after}
 use Rattle.wf_records.specs.CallsKept.{no_call}
 use Rattle.wf_object.proofs.Scripts.{began_is}

@@ -6,7 +6,7 @@ use Rattle.ob_interface.specs.Call.{ObjectCall, Reply}
 use Rattle.wf_history.specs.History.{Event, IsHistory}
 use Rattle.wf_table.specs.declared.process.Label.{Label}
 use Rattle.wf_table.specs.declared.process.Label.TheVariants.{Next, Commit, Give}
-use Rattle.wf_table.specs.Table.{Process, next, give, own_block}
+use Rattle.wf_table.specs.StepTable.{Process, next, give, own_block}
 use Rattle.wf_table.specs.Object.{State, GoesOn, event_at, seen_by, began, ended, applied_ids, begun_of, history_after, noted, answer_by, answer_of, label_by}
 use Rattle.wf_table.specs.Spent.{has_more, spent_after}
 use Rattle.wf_object.specs.Shown.{state_of}

@@ -1,7 +1,7 @@
 use Rattle.std.proofs.Common.{◌≡◌, ◌+◌, ◌<◌, ◌≤◌, length, ap, sym, subst, arith}
 use Rattle.ll_cell.specs.Cell.{Cell, fresh, own_of, block_of}
 use Rattle.ll_cell.specs.Memory.{Memory}
-use Rattle.wf_table.specs.Table.{block_words}
+use Rattle.wf_table.specs.StepTable.{block_words}
 use Rattle.wf_object.proofs.Opening.{own_within, own_long}
 use Rattle.wf_object.proofs.start.opened.Goals as goal
 

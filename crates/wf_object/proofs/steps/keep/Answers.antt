@@ -1,5 +1,5 @@
 use Rattle.std.proofs.Common.{◌≡◌, ◌+◌, ap, sym, subst, arith, ◌∙◌, to_z, of_z, w64, to_z-of_z}
-use Rattle.wf_table.specs.Table.{Process}
+use Rattle.wf_table.specs.StepTable.{Process}
 use Rattle.wf_table.specs.Toggles.{IsBit}
 use Rattle.wf_object.proofs.Packs.{kept_bit}
 use Rattle.wf_object.proofs.steps.keep.Goals as goal

@@ -1,7 +1,7 @@
 use Rattle.std.proofs.Common.{◌≡◌, ◌+◌, ◌*◌, ap, sym, subst, arith, ◌∙◌, to_z, of_z, w64, to_z-of_z}
 use Rattle.ll_cell.specs.declared.form.Form.{Form}
 use Rattle.wf_table.specs.Labels.{at_store}
-use Rattle.wf_table.specs.Table.{Process}
+use Rattle.wf_table.specs.StepTable.{Process}
 use Rattle.wf_table.specs.Toggles.{IsBit}
 use Rattle.wf_object.proofs.Packs.{stored_bit}
 use Rattle.wf_object.proofs.steps.store.Goals as goal

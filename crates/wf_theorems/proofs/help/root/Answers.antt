@@ -1,4 +1,4 @@
-use Rattle.wf_table.proofs.CommitsRuns.{run_committed}
+use Rattle.wf_table.proofs.HelpAndOrderRuns.{run_committed}
 use Rattle.wf_table.proofs.HelpRuns.{run_helped}
 use Rattle.wf_theorems.proofs.help.root.Goals as goal
 

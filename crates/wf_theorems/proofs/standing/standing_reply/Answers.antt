@@ -1,7 +1,7 @@
 use Rattle.std.proofs.Common.{◌<◌, sym, subst}
 use Rattle.wf_table.specs.declared.process.Label.{Label}
-use Rattle.wf_table.specs.Commits.{announced_call}
-use Rattle.wf_table.proofs.CommitsRuns.{founded}
+use Rattle.wf_table.specs.HelpAndOrder.{announced_call}
+use Rattle.wf_table.proofs.HelpAndOrderRuns.{founded}
 use Rattle.wf_table.specs.Stands.{words_taken}
 use Rattle.wf_table.proofs.Since.{from_order}
 use Rattle.wf_table.proofs.Keeps.{told}

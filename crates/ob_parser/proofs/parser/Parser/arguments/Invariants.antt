@@ -1,6 +1,6 @@
 use Rattle.std.proofs.Common.{◌-◌, ◌++◌, length, map, flat_map}
 use Rattle.ob_scan.specs.declared.token.Kind.{Kind}
-use Rattle.ob_grammar.specs.Conditions.{in_expr}
+use Rattle.ob_grammar.specs.EndNamesAndNesting.{in_expr}
 use Rattle.ob_parser.specs.Forms as forms
 use Rattle.ob_grammar.specs.View.{expr_of}
 use Rattle.ob_parser.proofs.Phrases.{tail}

@@ -1,7 +1,7 @@
 use Rattle.std.proofs.Common.{◌-◌, ◌++◌, length, map, flat_map}
 use Rattle.ob_parser.specs.Forms as forms
 use Rattle.ob_scan.specs.declared.token.Kind.{Kind}
-use Rattle.ob_grammar.specs.Conditions.{in_type}
+use Rattle.ob_grammar.specs.EndNamesAndNesting.{in_type}
 use Rattle.ob_grammar.specs.Tree.{Section}
 use Rattle.ob_grammar.specs.View.{section_of}
 use Rattle.ob_parser.proofs.Phrases.{tail}

@@ -1,6 +1,6 @@
 use Rattle.std.proofs.Common.{◌∙◌, sym}
 use Rattle.wf_table.specs.Object.{State}
-use Rattle.wf_table.proofs.CommitsLaws.{order_once}
+use Rattle.wf_table.proofs.HelpAndOrderLaws.{order_once}
 use Rattle.wf_table.proofs.Timed.{never_before}
 use Rattle.wf_table.proofs.Legal.{legal}
 use Rattle.wf_object.proofs.machine.Machine.order.Goals as goal

@@ -2,7 +2,7 @@ use Rattle.std.proofs.Common.{◌≡◌, ◌<◌, true, List, sym, ap, ◌∙◌
 use Rattle.std.specs.Prelude.{Option, Some}
 use Rattle.wf_table.specs.Object.{State, Records}
 use Rattle.wf_table.specs.Schedule.{steps_of}
-use Rattle.wf_table.specs.Table.{Process}
+use Rattle.wf_table.specs.StepTable.{Process}
 use Rattle.wf_table.specs.declared.spent.Spent.{Spent}
 use Rattle.wf_object.specs.Halted.{is_halted, is_halted_by}
 use Rattle.wf_object.specs.InARow.{after_steps, spent_after_steps}

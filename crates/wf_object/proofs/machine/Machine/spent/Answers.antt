@@ -3,7 +3,7 @@ use Rattle.std.proofs.lemmas.Option.{slice_get_read, get_or_from_slice_get}
 use Rattle.wf_table.specs.Spent.{unspent}
 use Rattle.wf_table.specs.Counted.{spent_of}
 use Rattle.wf_table.proofs.BoundRuns.{within_bound}
-use Rattle.wf_table.proofs.CommitsSteps.{member}
+use Rattle.wf_table.proofs.HelpAndOrderSteps.{member}
 use Rattle.wf_object.proofs.machine.Machine.spent.Goals as goal
 
 pub returns-clause-bodies : goal.returns-clause-bodies

@@ -4,7 +4,7 @@ use Rattle.ll_cell.specs.Cell.{Cell}
 use Rattle.wf_table.specs.declared.process.Label.TheVariants.{Body}
 use Rattle.wf_table.specs.Object.{State, Records}
 use Rattle.wf_table.specs.Schedule.{steps_of}
-use Rattle.wf_table.specs.Table.{Process}
+use Rattle.wf_table.specs.StepTable.{Process}
 use Rattle.wf_table.specs.declared.spent.Spent.{Spent}
 use Rattle.wf_table.specs.Spent.{unspent}
 use Rattle.wf_table.specs.Counted.{spent_of}

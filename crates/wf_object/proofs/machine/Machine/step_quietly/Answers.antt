@@ -3,7 +3,7 @@ use Rattle.std.specs.Prelude.{None}
 use Rattle.std.proofs.lemmas.Option.{same_Some, slice_get_read, get_or_from_slice_get}
 use Rattle.wf_table.specs.Object.{State, Records, step_of, noted}
 use Rattle.wf_table.specs.Schedule.{steps_of}
-use Rattle.wf_table.specs.Table.{Process}
+use Rattle.wf_table.specs.StepTable.{Process}
 use Rattle.wf_table.proofs.Counted.{one_turn}
 use Rattle.wf_table.specs.declared.spent.Spent.{Spent}
 use Rattle.wf_table.specs.Spent.{unspent, spent_after, has_more}

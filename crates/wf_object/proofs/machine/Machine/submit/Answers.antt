@@ -1,7 +1,7 @@
 use Rattle.std.proofs.Common.{◌<◌, ℕ, sym, ap}
 use Rattle.ob_interface.specs.View.{call_of}
 use Rattle.wf_table.specs.Object.{State, submit_by}
-use Rattle.wf_table.specs.Table.{Process}
+use Rattle.wf_table.specs.StepTable.{Process}
 use Rattle.wf_object.proofs.Keeps.{submit_kept}
 use Rattle.wf_object.proofs.OneStep.{stands, number_is}
 use Rattle.wf_object.proofs.machine.Machine.submit.Goals as goal

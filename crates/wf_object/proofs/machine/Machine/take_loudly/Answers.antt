@@ -14,7 +14,7 @@ use Rattle.wf_table.specs.Ranges.{IsInRange}
 use Rattle.wf_table.specs.Scripts.{CallsFit}
 use Rattle.wf_table.specs.Object.{State, Records, answer_of, stepped, step_of, step_by, Answer, event_at, seen_by, seen_of, values_answered, history_after}
 use Rattle.wf_table.specs.Schedule.{steps_of}
-use Rattle.wf_table.specs.Table.{Process}
+use Rattle.wf_table.specs.StepTable.{Process}
 use Rattle.wf_table.proofs.Counted.{one_turn}
 use Rattle.wf_table.proofs.FewValues.{few_answered}
 use Rattle.wf_table.proofs.KeepsTurns.{event_in_turn}

@@ -1,0 +1,156 @@
+//! What shows a habit of another language: a `:` behind a keyword, a part of a procedure, and a line that ends with an operator.
+
+use crate::foreign::begins_part;
+use crate::keywords::stands_before;
+use crate::procedure_names::{is_procedure, lists};
+use crate::unexpected::is_type;
+use ob_evidence::text_site::{Site, is_kind};
+use ob_explain_sentences::place::halves;
+use ob_scan::{Kind, Token};
+
+/// Whether a keyword in small letters stands there, before it, or before the `:` and the name before it, with a `:` behind it and no
+/// type behind that: `begin: x := 1`.
+pub(crate) fn has_small_before_colon(site: &Site<'_, '_>) -> bool {
+    let behind = match site.behind {
+        [first, second, ..] if first.kind == Kind::Colon => Some(*second),
+        _ => None,
+    };
+    is_small_at(site, site.here(), behind)
+        || is_kind(site.here(), Kind::Colon) && is_small_at(site, site.last(), site.next())
+        || is_begun_before(site)
+}
+
+/// Whether a token is a keyword in small letters that stands nowhere before, and behind its `:` stands this token, and no type.
+fn is_small_at(site: &Site<'_, '_>, name: Option<Token>, behind: Option<Token>) -> bool {
+    let Some(name) = name else {
+        return false;
+    };
+    let Some(behind) = behind else {
+        return false;
+    };
+    is_small(site, name)
+        && !matches!(behind.kind, Kind::Array | Kind::Record)
+        && !is_type(site, site.word_of(Some(behind)))
+}
+
+/// Whether `begin`, a `:` and the name of what is no type stand before a `:=`.
+fn is_begun_before(site: &Site<'_, '_>) -> bool {
+    match site.before {
+        [name, colon, begin, ..] => {
+            is_kind(site.here(), Kind::Assign)
+                && colon.kind == Kind::Colon
+                && site.word_of(Some(*begin)).eq_ignore_ascii_case(b"BEGIN")
+                && is_small_at(site, Some(*begin), Some(*name))
+        }
+        _ => false,
+    }
+}
+
+/// Whether a token is a name that is a keyword but for small letters, and that stands nowhere before.
+fn is_small(site: &Site<'_, '_>, name: Token) -> bool {
+    name.kind == Kind::Ident && begins_part(site.word_of(Some(name))) && !stands_before(site, name)
+}
+
+/// Whether the name of a procedure, and of nothing else, a `.` and a name stand before the place.
+pub(crate) fn is_behind_part_of_procedure(site: &Site<'_, '_>) -> bool {
+    match site.before {
+        [part, dot, name, ..] => {
+            let word = site.word_of(Some(*name));
+            part.kind == Kind::Ident
+                && dot.kind == Kind::Dot
+                && !word.is_empty()
+                && is_procedure(site, site.tokens, word)
+                && !lists(site, word)
+        }
+        _ => false,
+    }
+}
+
+/// Whether the line before ends with an operator, and the token there begins its own line, or is a `:=` behind what may be assigned.
+pub(crate) fn is_unfinished(site: &Site<'_, '_>) -> bool {
+    let (before, _) = halves(site.text, site.place);
+    let begin = line_begin(before);
+    let inside = begun_from(site.before, begin);
+    let (line, rest) = site.before.split_at(inside.min(site.before.len()));
+    match rest {
+        [operator, ..] => {
+            is_operator(operator.kind)
+                && is_line_end(halves(before, operator.end).1)
+                && (line.is_empty() || is_assigned_to(site, line))
+        }
+        [] => false,
+    }
+}
+
+/// Where the last line of some bytes begins.
+fn line_begin(bytes: &[u8]) -> usize {
+    let mut begin = 0;
+    for (at, byte) in bytes.iter().enumerate() {
+        if *byte == b'\n' {
+            begin = at.saturating_add(1);
+        }
+    }
+    begin
+}
+
+/// How many of these tokens, the last one first, begin from a place on.
+fn begun_from(tokens: &[Token], begin: usize) -> usize {
+    let mut count: usize = 0;
+    for token in tokens {
+        if token.start < begin {
+            return count;
+        }
+        count = count.saturating_add(1);
+    }
+    count
+}
+
+/// Whether bytes are blanks, a line feed, and what stands behind it, which has no line feed.
+fn is_line_end(bytes: &[u8]) -> bool {
+    let mut is_ended = false;
+    for byte in bytes {
+        if *byte == b'\n' && is_ended {
+            return false;
+        }
+        if !is_ended && !byte.is_ascii_whitespace() {
+            return false;
+        }
+        is_ended = is_ended || *byte == b'\n';
+    }
+    is_ended
+}
+
+/// Whether a `:=` stands there, and these tokens before it, the last one first, are what may be assigned: a name, an element or a field.
+fn is_assigned_to(site: &Site<'_, '_>, line: &[Token]) -> bool {
+    is_kind(site.here(), Kind::Assign)
+        && match line {
+            [only] => only.kind == Kind::Ident,
+            [last, .., second, first] => {
+                first.kind == Kind::Ident
+                    && matches!(second.kind, Kind::Dot | Kind::LeftBracket)
+                    && matches!(last.kind, Kind::Ident | Kind::RightBracket)
+            }
+            _ => false,
+        }
+}
+
+/// Whether a token is an operator behind which an operand stands.
+fn is_operator(kind: Kind) -> bool {
+    matches!(
+        kind,
+        Kind::Plus
+            | Kind::Minus
+            | Kind::Times
+            | Kind::Div
+            | Kind::Mod
+            | Kind::And
+            | Kind::Or
+            | Kind::Not
+            | Kind::Equal
+            | Kind::NotEqual
+            | Kind::Less
+            | Kind::LessOrEqual
+            | Kind::Greater
+            | Kind::GreaterOrEqual
+    )
+}

@@ -1,0 +1,2 @@
+pub mod Mendings
+pub mod Verdicts

@@ -1,7 +1,0 @@
--- The bytes so far, with a letter for each `_`.
-use Rattle.std.proofs.Common.{◌≡◌, map, take}
-use Rattle.ob_slips.specs.Mendings.{letter_for}
-use Rattle.ob_slips.proofs.mending.lettered.Given as goal
-
-abbrev pub invariant-loop-byte : goal.invariant-loop-byte
-invariant-loop-byte l = l.whole.items ≡ map letter_for (take l.byte-index l.text)

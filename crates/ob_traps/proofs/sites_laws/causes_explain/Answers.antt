@@ -1,8 +1,0 @@
-use Rattle.ob_traps.proofs.CallSites.{call_explained, opening_explained}
-use Rattle.ob_traps.proofs.sites_laws.causes_explain.Goals as goal
-
-pub returns-clause-call : goal.returns-clause-call
-returns-clause-call c = call_explained
-
-pub returns-clause-opening : goal.returns-clause-opening
-returns-clause-opening c = opening_explained
