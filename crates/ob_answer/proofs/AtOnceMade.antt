@@ -1,6 +1,6 @@
 -- The same of pictures and of workers.
 use Rattle.std.proofs.Common.{◌<◌, ℕ, List, Option, length}
-use Rattle.ob_desk_serve.specs.ServedTexts.{IsUngatedRefusal, calls_texts}
+use Rattle.ob_desk_serve.specs.PromisesOfServeTexts.{IsUngatedRefusal, calls_texts}
 use Rattle.ob_desk_serve.specs.declared.serving_texts.ServeTextFault.TheVariants as Serve
 use Rattle.ob_object_compile.specs.Asked.{Asked}
 use Rattle.ob_object_compile.specs.Compilation as Compiles

@@ -10,7 +10,7 @@ use Rattle.ob_fault_lines.specs.SequentialFaultLines.{seq_fault_line}
 use Rattle.ob_fault_lines.specs.ServeFaultLines.{serve_fault_line}
 use Rattle.ob_fault_lines.specs.VerifyFaultLines.{verify_fault_line}
 use Rattle.ob_fault_pages.specs.Pages.{page_text}
-use Rattle.ob_desk_serve.specs.ServedTexts.{IsServedPrinted}
+use Rattle.ob_desk_serve.specs.PromisesOfServeTexts.{IsServedPrinted}
 use Rattle.ob_object_perform.specs.Numbers.{IsBoundText}
 use Rattle.ob_object_compile.specs.Asked.{Asked, ByBody, by_body}
 use Rattle.ob_object_compile.specs.Compilation.{IsAny, default_budget}

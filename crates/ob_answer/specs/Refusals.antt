@@ -1,8 +1,8 @@
 -- With which fault bytes are refused: the fault has a number, so it is no want of memory; what it says of them is true; and they have nothing
 -- of what is asked for, whatever else is wrong with them.
 use Rattle.std.specs.Prelude.{◌≢◌, ℕ, List, Option}
-use Rattle.ob_desk_serve.specs.ServedTexts as Serves
-use Rattle.ob_desk_serve.specs.ServedTexts.{IsUngatedRefusal}
+use Rattle.ob_desk_serve.specs.PromisesOfServeTexts as Serves
+use Rattle.ob_desk_serve.specs.PromisesOfServeTexts.{IsUngatedRefusal}
 use Rattle.ob_desk_serve.specs.declared.serving_texts.ServeTextFault.{ServeTextFault}
 use Rattle.ob_object_compile.specs.Asked.{Asked}
 use Rattle.ob_object_compile.specs.Compilation.{IsAny}

@@ -14,7 +14,7 @@ use Rattle.ob_desk_floor.specs.Close as Close
 use Rattle.ob_desk_floor.specs.Desk.{Desk}
 use Rattle.ob_desk_floor.specs.declared.fault.CloseFault.{CloseFault}
 use Rattle.ob_desk_floor.specs.Seat.{Seat}
-use Rattle.ob_desk_serve.specs.Served.{IsLegalRecord, IsMeantRecord, IsRecordOf, desk_of}
+use Rattle.ob_desk_serve.specs.PromisesOfServe.{IsLegalRecord, IsMeantRecord, IsRecordOf, desk_of}
 use Rattle.ob_meaning.specs.Same.{SameState}
 use Rattle.ob_meaning.specs.ByNameObject as Named
 use Rattle.ob_object_compile.specs.Compilation.{ObjectParts}

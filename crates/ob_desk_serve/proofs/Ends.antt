@@ -22,7 +22,7 @@ use Rattle.ob_interface.specs.Call.{ObjectCall, Reply}
 use Rattle.ob_object_compile.specs.Compilation.{ObjectParts}
 use Rattle.ob_desk_serve.specs.NotAllEnded.{AreBack, AreOf, HaveAllServed, HaveServed, IsGatherFault, NoneEnded, hidden, how_ended, lists_in, started}
 use Rattle.ob_desk_serve.specs.ServeFaults.{HasLost, IsFinishFault, IsServeFault, TellsClosing}
-use Rattle.ob_desk_serve.specs.Served.{AreAnswersTold, AreTurnsLet, desk_of}
+use Rattle.ob_desk_serve.specs.PromisesOfServe.{AreAnswersTold, AreTurnsLet, desk_of}
 use Rattle.ob_desk_serve.specs.declared.ended_workers.HandedBack.{HandedBack}
 use Rattle.ob_desk_serve.specs.declared.fault.ServeFault.{ServeFault}
 use Rattle.ob_desk_serve.specs.declared.fault.ServeFault.TheVariants as Faults

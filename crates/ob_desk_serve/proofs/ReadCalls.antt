@@ -1,6 +1,6 @@
 -- The calls that were read of texts are what workers are given.
 use Rattle.std.proofs.Common.{◌<◌, ◌≤◌, ℕ, List, map, subst, sym}
-use Rattle.ob_desk_serve.specs.ServedTexts.{AreReadCalls}
+use Rattle.ob_desk_serve.specs.PromisesOfServeTexts.{AreReadCalls}
 use Rattle.ob_interface.specs.declared.processes.TheConstants.{MOST_PROCESSES}
 use Rattle.ob_object_compile.specs.Asked.{Asked}
 use Rattle.ob_object_compile.specs.Compilation.{ObjectParts}

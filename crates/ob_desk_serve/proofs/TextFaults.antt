@@ -9,7 +9,7 @@ use Rattle.ob_object_perform.specs.declared.performing.PerformFault.TheVariants 
 use Rattle.ob_desk_serve.specs.ServeFaults.{IsServeFault}
 use Rattle.ob_desk_serve.specs.declared.fault.ServeFault.{ServeFault}
 use Rattle.ob_desk_serve.specs.declared.fault.ServeFault.TheVariants as Serve
-use Rattle.ob_desk_serve.specs.ServedTexts.{AreReadCalls, IsOfTexts, IsServeRefusal, IsServeTextFault, IsUngatedRefusal, TellsMemoryApart, calls_texts, of_serve, of_texts}
+use Rattle.ob_desk_serve.specs.PromisesOfServeTexts.{AreReadCalls, IsOfTexts, IsServeRefusal, IsServeTextFault, IsUngatedRefusal, TellsMemoryApart, calls_texts, of_serve, of_texts}
 use Rattle.ob_desk_serve.specs.declared.serving_texts.ServeTextFault.TheVariants as Faults
 use Rattle.ob_text_words.specs.ScriptCalls.{ScriptCall}
 

@@ -2,6 +2,6 @@ pub mod Joined
 pub mod Rounds
 pub mod ServeFaults
 pub mod NotAllEnded
-pub mod Served
-pub mod ServedTexts
+pub mod PromisesOfServe
+pub mod PromisesOfServeTexts
 pub mod WorkersGathered

@@ -16,7 +16,7 @@ use Rattle.ob_interface.specs.Call.{ObjectCall, Reply}
 use Rattle.ob_object_compile.specs.Compilation.{ObjectParts}
 use Rattle.ob_text_record.specs.Record.{Record}
 use Rattle.ob_desk_serve.specs.NotAllEnded.{HaveAllServed, HaveServed, IsFirst}
-use Rattle.ob_desk_serve.specs.Served.{EndsFirst, IsRecordOf, calls_for, desk_of}
+use Rattle.ob_desk_serve.specs.PromisesOfServe.{EndsFirst, IsRecordOf, calls_for, desk_of}
 use Rattle.ob_desk_serve.specs.declared.fault.ServeFault.{ServeFault}
 use Rattle.ob_desk_serve.specs.declared.fault.ServeFault.TheVariants as Faults
 use Rattle.ob_text_words.specs.ScriptCalls.{ScriptCall}

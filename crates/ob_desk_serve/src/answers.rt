@@ -2,7 +2,7 @@
 
 ghost use Rattle.std.specs.Prelude.{◌≡◌, ◌≢◌, [], IfNone, IfSome, IsFalse, IsTrue, get_or, length, map};
 ghost use Rattle.ob_desk_serve.specs.ServeFaults.{AreToldAll, IsLowestLost, IsTold};
-ghost use Rattle.ob_desk_serve.specs.Served.{calls_for};
+ghost use Rattle.ob_desk_serve.specs.PromisesOfServe.{calls_for};
 ghost use Rattle.ob_text_words.specs.ScriptCalls.{script_call_of};
 ghost use Rattle.wf_history.specs.View.{event_of};
 ghost use Rattle.wf_theorems.specs.FirstCalls.{first_ids};

@@ -2,7 +2,7 @@
 
 ghost use Rattle.std.specs.Prelude.{◌≡◌, ◌<◌, All, IfOk};
 ghost use Rattle.ob_code_scheme.specs.Layout.{encoded};
-ghost use Rattle.ob_desk_serve.specs.Served.{IsLegalRecord, IsMeantRecord};
+ghost use Rattle.ob_desk_serve.specs.PromisesOfServe.{IsLegalRecord, IsMeantRecord};
 ghost use Rattle.ob_object_compile.specs.Sound.{IsSoundObject};
 ghost use Rattle.ob_object_compile.specs.View.{object_in};
 ghost use Rattle.ob_text_record.specs.Record.{carried_from, record_of};

@@ -6,7 +6,7 @@ ghost use Rattle.ob_desk_floor.specs.Desk.{seats_of};
 ghost use Rattle.ob_desk_floor.specs.Submission.{submission_of};
 ghost use Rattle.ob_object_compile.specs.Sound.{IsSoundObject};
 ghost use Rattle.ob_object_compile.specs.View.{object_in};
-ghost use Rattle.ob_desk_serve.specs.Served.{desk_of, kept_desk};
+ghost use Rattle.ob_desk_serve.specs.PromisesOfServe.{desk_of, kept_desk};
 ghost use Rattle.ob_text_words.specs.ScriptCalls.{object_call, script_call_of};
 ghost use Rattle.wf_play.specs.Played.{scripts_of};
 

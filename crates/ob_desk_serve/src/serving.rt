@@ -10,7 +10,7 @@ ghost use Rattle.ob_text_record.specs.Record.{record_of};
 ghost use Rattle.ob_object_run.specs.Recorded.{DoFit};
 ghost use Rattle.ob_desk_serve.specs.NotAllEnded.{lists_in};
 ghost use Rattle.ob_desk_serve.specs.ServeFaults.{IsFinishFault, IsServeFault};
-ghost use Rattle.ob_desk_serve.specs.Served.{AreAnswersTold, AreTurnsLet, HaveEnded, IsRecordOf, desk_of, kept_desk};
+ghost use Rattle.ob_desk_serve.specs.PromisesOfServe.{AreAnswersTold, AreTurnsLet, HaveEnded, IsRecordOf, desk_of, kept_desk};
 ghost use Rattle.ob_text_words.specs.ScriptCalls.{object_call, script_call_of};
 
 use crate::answers::first_lost;

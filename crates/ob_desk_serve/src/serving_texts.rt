@@ -2,7 +2,7 @@
 
 ghost use Rattle.std.specs.Prelude.{◌≡◌, ◌≢◌, ℕ, ◌<◌, ◌≤◌, ◌^◌, All, Err, IfErr, IfOk, length, map, string_bytes};
 ghost use Rattle.ob_code_correct.specs.Compiled.{IsFitting};
-ghost use Rattle.ob_desk_serve.specs.ServedTexts.{AreReadCalls, IsServeRefusal, IsServedBy, IsServedPrinted, IsUngatedRefusal, calls_texts};
+ghost use Rattle.ob_desk_serve.specs.PromisesOfServeTexts.{AreReadCalls, IsServeRefusal, IsServedBy, IsServedPrinted, IsUngatedRefusal, calls_texts};
 ghost use Rattle.ob_object_compile.specs.Asked.{TellsAtOnce};
 ghost use Rattle.ob_object_compile.specs.Compilation.{IsShort};
 ghost use Rattle.ob_object_compile.specs.Sound.{IsSoundObject};
@@ -38,7 +38,7 @@ pub enum ServeTextFault {
 
 impl From<PerformFault> for ServeTextFault {
     ghost use Rattle.std.specs.Prelude.{◌≡◌};
-    ghost use Rattle.ob_desk_serve.specs.ServedTexts.{of_texts};
+    ghost use Rattle.ob_desk_serve.specs.PromisesOfServeTexts.{of_texts};
 
     ghost from_gives = { λ e f. f ≡ of_texts e };
 
@@ -52,7 +52,7 @@ impl From<PerformFault> for ServeTextFault {
 
 impl From<ServeFault> for ServeTextFault {
     ghost use Rattle.std.specs.Prelude.{◌≡◌};
-    ghost use Rattle.ob_desk_serve.specs.ServedTexts.{of_serve};
+    ghost use Rattle.ob_desk_serve.specs.PromisesOfServeTexts.{of_serve};
 
     ghost from_gives = { λ e f. f ≡ of_serve e };
 

@@ -1,7 +1,7 @@
 -- Records of runs from texts, by a schedule or by workers: they are writable, and what is printed of them is verified.
 use Rattle.std.specs.Prelude.{ℕ, ◌<◌, ◌^◌, List, length}
-use Rattle.ob_desk_serve.specs.Served.{IsRecordOf}
-use Rattle.ob_desk_serve.specs.ServedTexts.{AreReadCalls, IsServedPrinted}
+use Rattle.ob_desk_serve.specs.PromisesOfServe.{IsRecordOf}
+use Rattle.ob_desk_serve.specs.PromisesOfServeTexts.{AreReadCalls, IsServedPrinted}
 use Rattle.ob_object_compile.specs.Asked.{Asked}
 use Rattle.ob_object_compile.specs.Compilation.{ObjectParts}
 use Rattle.ob_object_perform.specs.Performance.{IsRunOf}

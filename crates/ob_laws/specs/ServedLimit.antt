@@ -2,7 +2,7 @@
 use Rattle.std.specs.Prelude.{ℕ, List}
 use Rattle.ob_code_correct.specs.CodeMeaning.{code_meaning}
 use Rattle.ob_code_engine.specs.Total.{body_limit}
-use Rattle.ob_desk_serve.specs.ServedTexts.{IsServedPrinted}
+use Rattle.ob_desk_serve.specs.PromisesOfServeTexts.{IsServedPrinted}
 use Rattle.ob_object_compile.specs.Asked.{Asked}
 use Rattle.ob_object_run.specs.KeepsBound.{KeepsLimit}
 use Rattle.wf_play.specs.Played.{scripts_of}

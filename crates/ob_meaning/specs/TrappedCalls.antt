@@ -1,4 +1,5 @@
--- A call that traps changes nothing: what it did before its trap is undone.
+-- A call that traps changes nothing: its effect is taken of the state from before the call (`effect_of` of ByNameObject), whatever
+-- its statements had written by then.
 use Rattle.std.specs.Prelude.{◌≡◌, ℕ}
 use Rattle.ob_interface.specs.Call.{ObjectCall, Trapped}
 use Rattle.ob_typing.specs.Program.{Program}

@@ -23,7 +23,7 @@ use Rattle.wf_table.specs.Sound.{IsSound}
 use Rattle.wf_table.proofs.HelpAndOrderSteps.{member}
 use Rattle.wf_table.specs.HelpAlone.{has_ended, left, replied, Alone}
 use Rattle.wf_table.specs.Helps.{IsHelped}
-use Rattle.wf_table.specs.Served.{OrderLeads}
+use Rattle.wf_table.specs.HelpedCalls.{OrderLeads}
 use Rattle.wf_table.proofs.Alones.{alone_lawful}
 
 module _ {Run : Type 0} (m : Meaning Run) (lawful : List ℤ → Type 0) (fits : ObjectCall → Type 0) (ready : Run → Type 0) (Effect : Effects) (law : IsLawful m lawful fits ready Effect) where

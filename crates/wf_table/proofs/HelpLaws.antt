@@ -18,7 +18,7 @@ use Rattle.wf_table.specs.HelpAndOrder.{phase, IsCommitted}
 use Rattle.wf_table.proofs.HelpAndOrderSteps.{member}
 use Rattle.wf_table.specs.HelpAlone.{Alone}
 use Rattle.wf_table.specs.Helps.{calls_of, served, Packs, IsHelped}
-use Rattle.wf_table.specs.Served.{ServesOpen, MakesAnother}
+use Rattle.wf_table.specs.HelpedCalls.{ServesOpen, MakesAnother}
 use Rattle.wf_table.proofs.Passed.{served_within, wanted_pending, number_is, call_absent, list_laid}
 
 module _ {Run : Type 0} (m : Meaning Run) (lawful : List ℤ → Type 0) (fits : ObjectCall → Type 0) (z : Sizes) (opening : List ℤ) (s : State Run) (h : IsHelped m lawful fits z opening s) (p : ℕ) (q : Process Run) (at : slice_get s.processes p ≡ Some q) where

@@ -65,7 +65,7 @@ mod Passed
 pub mod Performed
 pub mod Rounds
 pub mod Seen
-pub mod Served
+pub mod HelpedCalls
 mod Serving
 pub mod Since
 pub mod StandingLaws

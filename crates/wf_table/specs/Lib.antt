@@ -26,7 +26,7 @@ pub mod Rounds
 pub mod Runs
 pub mod Schedule
 pub mod Scripts
-pub mod Served
+pub mod HelpedCalls
 pub mod Sound
 pub mod Spent
 pub mod Stands

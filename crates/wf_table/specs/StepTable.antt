@@ -179,6 +179,8 @@ module _ {Run : Type 0} where
       then record q { label = Seen; registers = record q.registers { i = 0; j = q.registers.j + 1 } }
       else at (q.registers.i + 1) Keep q)
 
+  -- where p is linked, its own block becomes the root and the old root its own, and no process is linked any more (`exchange` of
+  -- Cell), so of all that copied one root just one replaces it; else nothing changes, and p tries once more
   abbrev pub commit : Cell → ℕ → Process Run → Move Run
   commit c p q = moved Exchanges (if is_linked c p then to Read q else to Try q)
 

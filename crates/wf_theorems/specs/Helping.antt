@@ -12,7 +12,7 @@ use Rattle.wf_table.specs.Order.{applied_count}
 use Rattle.wf_table.specs.HelpAndOrder.{IsCommitted}
 use Rattle.wf_table.specs.Contents.{RootHolds}
 use Rattle.wf_table.specs.Helps.{IsHelped}
-use Rattle.wf_table.specs.Served.{ServesOpen, MakesAnother, OrderLeads}
+use Rattle.wf_table.specs.HelpedCalls.{ServesOpen, MakesAnother, OrderLeads}
 use Rattle.wf_table.specs.Meaning.{Meaning}
 use Rattle.wf_table.specs.Law.{Effects}
 use Rattle.ob_interface.specs.Call.{ObjectCall}

@@ -4,7 +4,7 @@ use Rattle.ob_answer_explained.specs.CommandTexts.{of_text}
 use Rattle.ob_answer_explained.proofs.AtOnce.{holds_of_whole}
 use Rattle.ob_answer.proofs.AtOnceMade.{workers_refused}
 use Rattle.ob_answer.proofs.Made.{text_refused}
-use Rattle.ob_desk_serve.specs.ServedTexts.{IsNumbered, IsServedPrinted, IsUngatedRefusal}
+use Rattle.ob_desk_serve.specs.PromisesOfServeTexts.{IsNumbered, IsServedPrinted, IsUngatedRefusal}
 use Rattle.ob_desk_serve.specs.declared.serving_texts.ServeTextFault.TheVariants as Serve
 use Rattle.ob_fault_lines.specs.ServeFaultLines.{serve_fault_line}
 use Rattle.ob_object_compile.specs.View.{asked_of, beginning_of}

@@ -1,5 +1,5 @@
 use Rattle.std.proofs.Common.{◌≡◌, map, take}
-use Rattle.ob_desk_serve.specs.Served.{calls_for}
+use Rattle.ob_desk_serve.specs.PromisesOfServe.{calls_for}
 use Rattle.ob_text_words.specs.ScriptCalls.{script_call_of}
 use Rattle.ob_desk_serve.proofs.answers.call_count.Given as goal
 

@@ -3,7 +3,7 @@ use Rattle.std.proofs.lemmas.List.{get_or-map}
 use Rattle.ob_desk_floor.specs.declared.seat.CallAnswer.{CallAnswer}
 use Rattle.ob_interface.specs.Call.{ObjectCall, Reply}
 use Rattle.ob_desk_serve.specs.ServeFaults.{IsTold, IsToldAll}
-use Rattle.ob_desk_serve.specs.Served.{calls_for}
+use Rattle.ob_desk_serve.specs.PromisesOfServe.{calls_for}
 use Rattle.ob_text_words.specs.ScriptCalls.{ScriptCall}
 use Rattle.wf_history.specs.History.{Event}
 use Rattle.ob_text_words.specs.ScriptCalls.{script_call_of}

@@ -4,7 +4,7 @@ use Rattle.ob_desk_serve.proofs.Closed.{is_object, legal_of, meant_of}
 use Rattle.ob_object_compile.specs.View.{object_in}
 use Rattle.ob_text_record.specs.Record.{Record, record_of}
 use Rattle.ob_object_run.specs.Recorded.{DoFit}
-use Rattle.ob_desk_serve.specs.Served.{IsLegalRecord, IsMeantRecord}
+use Rattle.ob_desk_serve.specs.PromisesOfServe.{IsLegalRecord, IsMeantRecord}
 use Rattle.wf_table.specs.declared.schedule.Turns.{Turns}
 use Rattle.ob_desk_serve.proofs.closed_record.record_of_machine.Goals as goal
 

@@ -14,7 +14,7 @@ use Rattle.ob_text_record.specs.Record.{record_of}
 use Rattle.ob_desk_serve.proofs.Closed.{IsClosed, TellsClosing, record_of_closed}
 use Rattle.ob_desk_serve.specs.NotAllEnded.{lists_in}
 use Rattle.ob_desk_serve.specs.ServeFaults.{IsLowestLost}
-use Rattle.ob_desk_serve.specs.Served.{EndsFirst, calls_for, desk_of}
+use Rattle.ob_desk_serve.specs.PromisesOfServe.{EndsFirst, calls_for, desk_of}
 use Rattle.ob_text_words.specs.ScriptCalls.{script_call_of}
 use Rattle.wf_history.specs.History.{Event}
 use Rattle.wf_history.specs.View.{event_of}

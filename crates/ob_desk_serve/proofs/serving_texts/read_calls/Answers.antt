@@ -1,5 +1,5 @@
 use Rattle.std.proofs.Common.{◌≡◌, ◌<◌, All, List, map, subst, sym}
-use Rattle.ob_desk_serve.specs.ServedTexts.{calls_texts}
+use Rattle.ob_desk_serve.specs.PromisesOfServeTexts.{calls_texts}
 use Rattle.ob_object_compile.specs.Compilation.{IsShort}
 use Rattle.ob_object_compile.specs.View.{asked_of, object_in}
 use Rattle.ob_object_perform.proofs.Mapped.{callers_below, fit_engine}

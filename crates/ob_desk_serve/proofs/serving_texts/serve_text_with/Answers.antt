@@ -6,7 +6,7 @@ use Rattle.ob_object_compile.specs.View.{asked_of, object_in}
 use Rattle.ob_text_record.specs.Record.{record_of}
 use Rattle.ob_text_record.specs.RecordText.{record_text}
 use Rattle.ob_desk_serve.specs.ServeFaults.{IsServeFault}
-use Rattle.ob_desk_serve.specs.Served.{AreAnswersTold, AreTurnsLet, HaveEnded, IsRecordOf}
+use Rattle.ob_desk_serve.specs.PromisesOfServe.{AreAnswersTold, AreTurnsLet, HaveEnded, IsRecordOf}
 use Rattle.ob_desk_serve.proofs.ReadCalls as Read
 use Rattle.ob_desk_serve.proofs.TextFaults.{memory_refused, serve_refused, texts_refused}
 use Rattle.ob_text_words.specs.ScriptCalls.{object_call, script_call_of}

@@ -1,4 +1,4 @@
-use Rattle.wf_table.proofs.Served.{served_whole, served_open, served_new, served_wanted}
+use Rattle.wf_table.proofs.HelpedCalls.{served_whole, served_open, served_new, served_wanted}
 use Rattle.wf_theorems.proofs.exchanges.served_call.Goals as goal
 
 pub returns-clause-whole : goal.returns-clause-whole

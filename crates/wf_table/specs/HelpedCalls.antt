@@ -1,4 +1,4 @@
--- What holds of the calls that a process serves, in the words of the theorems.
+-- What holds of a call that a process helps to make (its own or another's), in the words of the theorems.
 use Rattle.std.specs.Prelude.{◌≡◌, ◌≢◌, ℕ, ℤ, List, Some, slice_get, take, Contains}
 use Rattle.ob_interface.specs.Call.{ObjectCall, Reply}
 use Rattle.wf_history.specs.declared.event.CallId.{CallId}

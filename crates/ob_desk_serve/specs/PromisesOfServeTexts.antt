@@ -12,7 +12,7 @@ use Rattle.ob_text_record.specs.Record.{Record}
 use Rattle.ob_text_words.specs.declared.item.Item.{Item}
 use Rattle.ob_text_record.specs.RecordText.{record_text}
 use Rattle.ob_desk_serve.specs.ServeFaults.{IsServeFault}
-use Rattle.ob_desk_serve.specs.Served.{AreAnswersTold, AreTurnsLet, HaveEnded, IsRecordOf}
+use Rattle.ob_desk_serve.specs.PromisesOfServe.{AreAnswersTold, AreTurnsLet, HaveEnded, IsRecordOf}
 use Rattle.ob_desk_serve.specs.declared.fault.ServeFault.{ServeFault}
 use Rattle.ob_desk_serve.specs.declared.fault.ServeFault.TheVariants as Serve
 use Rattle.ob_desk_serve.specs.declared.serving_texts.ServeTextFault.{ServeTextFault}
