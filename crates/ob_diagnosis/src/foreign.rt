@@ -35,12 +35,13 @@ pub(crate) fn is_foreign(word: &[u8]) -> bool {
 
 /// Whether a word is a type of numbers that other languages have.
 pub(crate) fn is_number_type(word: &[u8]) -> bool {
-    let digits = word
-        .iter()
-        .rev()
-        .take_while(|byte| byte.is_ascii_digit())
-        .count();
-    let (letters, _) = word.split_at(word.len().saturating_sub(digits));
+    let mut end: usize = 0;
+    for (at, byte) in word.iter().enumerate() {
+        if !byte.is_ascii_digit() {
+            end = at.saturating_add(1);
+        }
+    }
+    let (letters, _) = word.split_at(end.min(word.len()));
     is_one(&NUMBER_TYPES, letters)
 }
 

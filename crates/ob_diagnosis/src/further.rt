@@ -127,13 +127,15 @@ pub(crate) fn is_own_name(site: &Site<'_, '_>, word: &[u8]) -> bool {
 
 /// Whether declarations of types stand at the place.
 fn stands_in_types(site: &Site<'_, '_>) -> bool {
-    let section = site.before.iter().copied().find(|token| {
-        matches!(
+    for token in site.before {
+        if matches!(
             token.kind,
             Kind::Const | Kind::Type | Kind::Var | Kind::Procedure | Kind::Begin
-        )
-    });
-    is_kind(section, Kind::Type)
+        ) {
+            return token.kind == Kind::Type;
+        }
+    }
+    false
 }
 
 /// Whether a word is the name of the constant or of the type in whose declaration the place stands.

@@ -94,7 +94,7 @@ fn line_begin(bytes: &[u8]) -> usize {
 }
 
 /// How many of these tokens, the last one first, begin from a place on.
-fn begun_from(tokens: &[Token], begin: usize) -> usize {
+pub(crate) fn begun_from(tokens: &[Token], begin: usize) -> usize {
     let mut count: usize = 0;
     for token in tokens {
         if token.start < begin {

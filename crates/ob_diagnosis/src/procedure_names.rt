@@ -1,5 +1,6 @@
 //! Names of procedures and of what is declared, by the tokens of a text alone.
 
+use crate::habits::begun_from;
 use ob_evidence::small_keywords::{first_of_statement, next_behind};
 use ob_evidence::text_site::{Site, is_kind};
 use ob_explain_tokens::actuals::ends_call;
@@ -107,13 +108,7 @@ fn is_in_repeat(site: &Site<'_, '_>) -> bool {
     let Some(opening) = open_construct(site.before) else {
         return false;
     };
-    let start = opening.start;
-    let outside = site.before.iter().position(|token| token.start < start);
-    match outside {
-        Some(count) => {
-            let (_, before) = site.before.split_at(count.min(site.before.len()));
-            is_kind(open_construct(before), Kind::Repeat)
-        }
-        None => false,
-    }
+    let inside = begun_from(site.before, opening.start);
+    let (_, before) = site.before.split_at(inside.min(site.before.len()));
+    is_kind(open_construct(before), Kind::Repeat)
 }

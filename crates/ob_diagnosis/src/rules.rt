@@ -12,13 +12,16 @@ use crate::told_by_tables::{Seen, nothing, of_facts, told};
 use ob_evidence::constant_numbers::{
     first_operand, is_known, length_there, second_operand, written,
 };
-use ob_evidence::facts::facts_of;
+use ob_evidence::facts::{facts_of, note};
 use ob_evidence::nearest_names::{
     declared, declared_line, is_near, is_there, near_name, parameters, sort_facts, sort_there,
 };
 use ob_evidence::needed_types::{note_whole, types_there};
-use ob_evidence::text_site::{Site, is_kind, kind_or_name, rest_of};
+use ob_evidence::text_site::{Site, is_kind, is_token, kind_or_name, rest_of};
 use ob_evidence::word_totals::{are_told, is_counted, is_in_procedure, told_words, words_there};
+use ob_explain_names::declarations::first_of;
+use ob_explain_parts::field_names::{fields_at, listed_fields};
+use ob_explain_parts::handed_parameter::called_name;
 use ob_explain_sentences::remark::Remark;
 use ob_explain_sentences::said::Evidence;
 use ob_explain_sentences::table_rows::{Fact, Number};
@@ -34,6 +37,8 @@ pub(crate) fn unknown_remark(alloc: Global, site: &Site<'_, '_>) -> Result<Remar
     ensures { IfOk result (λ remark. Tells (scene_of site.now) Number.C1 (remark_of remark)) }
 {
     let near = near_name(alloc, site)?;
+    let fields = fields_at(alloc, site.text, site.known, site.tokens, site.place)?;
+    let first = listed_fields(alloc, site.text, &fields)?;
     let word = name_alone(site);
     let facts = facts_of(
         alloc,
@@ -45,6 +50,7 @@ pub(crate) fn unknown_remark(alloc: Global, site: &Site<'_, '_>) -> Result<Remar
             (is_number_type(word), Fact::NumberType),
             (is_own_type(site, word), Fact::OwnType),
             (is_own_name(site, word), Fact::OwnName),
+            (is_token(first_of(&fields)), Fact::First),
         ],
     )?;
     let seen = Seen {
@@ -53,6 +59,7 @@ pub(crate) fn unknown_remark(alloc: Global, site: &Site<'_, '_>) -> Result<Remar
     };
     let evidence = Evidence {
         name: bytes_of(site.text, near.named),
+        first: &first,
         ..nothing()
     };
     told(alloc, site, Number::C1, &seen, &evidence)
@@ -110,9 +117,11 @@ pub(crate) fn types_remark(alloc: Global, site: &Site<'_, '_>) -> Result<Remark,
 {
     let mut facts = Vec::new(alloc);
     let types = types_there(&mut facts, alloc, site)?;
+    let called = called_name(site.text, site.known, site.before);
     let evidence = Evidence {
         wanted: types.wanted,
         found: types.found,
+        line: declared_line(site.text, called),
         ..nothing()
     };
     told(alloc, site, Number::C4, &of_facts(&facts), &evidence)
@@ -161,10 +170,15 @@ pub(crate) fn actuals_remark(alloc: Global, site: &Site<'_, '_>) -> Result<Remar
     ensures { IfOk result (λ remark. Tells (scene_of site.now) Number.C7 (remark_of remark)) }
 {
     let sort = sort_there(site);
-    let facts = sort_facts(alloc, sort)?;
+    let heading = declared(site);
+    let called = called_name(site.text, site.known, site.before);
+    let mut facts = sort_facts(alloc, sort)?;
+    note(&mut facts, is_there(called), Fact::Before)?;
     let evidence = Evidence {
         count: actual_count(site.behind),
         most: parameters(sort),
+        line: declared_line(site.text, heading),
+        other_line: declared_line(site.text, called),
         ..nothing()
     };
     told(alloc, site, Number::C7, &of_facts(&facts), &evidence)

@@ -199,13 +199,16 @@ fn begins_other(bytes: &[u8]) -> bool {
 
 /// Whether the letters and digits at the end of some bytes begin with a digit.
 fn ends_number(before: &[u8]) -> bool {
-    let length = before
-        .iter()
-        .rev()
-        .take_while(|byte| byte.is_ascii_alphanumeric())
-        .count();
-    match before.get(before.len().saturating_sub(length)) {
-        Some(first) => first.is_ascii_digit(),
-        None => false,
+    let mut is_word = false;
+    let mut is_digit = false;
+    for byte in before {
+        is_digit = if is_word {
+            is_digit
+        } else {
+            byte.is_ascii_digit()
+        };
+        is_word = byte.is_ascii_alphanumeric();
+        is_digit = is_digit && is_word;
     }
+    is_digit
 }

@@ -8,6 +8,8 @@ use Rattle.ob_explain_names.specs.Declarations.{is_there}
 use Rattle.ob_explain_tokens.specs.Actuals.{actual_count}
 use Rattle.ob_explain_tokens.specs.Open.{IsInRecord, IsOpenConstruct}
 use Rattle.ob_explain_tokens.specs.Parens.{is_in_parens}
+use Rattle.ob_explain_parts.specs.FieldNames.{fields_at, listed_fields}
+use Rattle.ob_explain_parts.specs.Parameters.{called_name}
 use Rattle.ob_explain_sentences.specs.Said.{Evidence}
 use Rattle.ob_explain_sentences.specs.declared.table_rows.Fact.{Fact}
 use Rattle.ob_explain_sentences.specs.declared.table_rows.Fact.TheVariants as Facts
@@ -15,7 +17,7 @@ use Rattle.ob_explain_sentences.specs.declared.table_rows.Number.{Number}
 use Rattle.ob_explain_sentences.specs.declared.table_rows.Number.TheVariants as Numbers
 use Rattle.ob_evidence.specs.Constructs.{AreShown, IsOpen, inner_of, opening_of}
 use Rattle.ob_explain_names.specs.Expected.{AreExpected}
-use Rattle.ob_evidence.specs.Facts.{facts_in}
+use Rattle.ob_evidence.specs.Facts.{facts_in, with_fact}
 use Rattle.ob_evidence.specs.Keywords.{IsAsked}
 use Rattle.ob_evidence.specs.Lone.{AreLone}
 use Rattle.ob_evidence.specs.Names.{declared, declared_line, end_name, is_near, near_name, parameters, sort_facts, sort_there}
@@ -59,7 +61,8 @@ pub record IsOtherName (s : Scene) (facts : List Fact) (e : Evidence) : Type 0 w
       (is_token (end_name s), Facts.Named) ∷ (is_token opening, Facts.StillOpen) ∷ (is_kind opening Kinds.Repeat, Facts.OpenRepeat)
       ∷ (is_token lone, Facts.Lone) ∷ [])
 
--- C1: the name is the nearest one. The other facts are hints on the word, of which nothing is promised.
+-- C1: the name is the nearest one; of a record the first fields are told. The other facts are hints on the word, of which nothing is
+-- promised.
 pub record IsUnknownName (s : Scene) (facts : List Fact) (e : Evidence) : Type 0 where
   pub further_down : Bool
   pub field : Bool
@@ -67,11 +70,13 @@ pub record IsUnknownName (s : Scene) (facts : List Fact) (e : Evidence) : Type 0
   pub number_type : Bool
   pub own_type : Bool
   pub own_name : Bool
+  pub has_fields : Bool
   pub name : e.name ≡ bytes_of s.text (near_name s).named
+  pub first : e.first ≡ listed_fields s.text (fields_at s.text s.known s.tokens s.place)
   pub noted : facts ≡ facts_in (
       (is_near (near_name s), Facts.Near) ∷ (further_down, Facts.FurtherDown) ∷ (field, Facts.Field)
       ∷ (elsewhere, Facts.Elsewhere) ∷ (number_type, Facts.NumberType) ∷ (own_type, Facts.OwnType)
-      ∷ (own_name, Facts.OwnName) ∷ [])
+      ∷ (own_name, Facts.OwnName) ∷ (has_fields, Facts.First) ∷ [])
 
 -- C2: the line is that of the declaration before.
 pub record IsDeclaredTwice (s : Scene) (facts : List Fact) (e : Evidence) : Type 0 where
@@ -84,11 +89,12 @@ pub record IsDeclaredTwice (s : Scene) (facts : List Fact) (e : Evidence) : Type
 abbrev pub IsOtherSort : Scene → List Fact → Type 0
 IsOtherSort s facts = facts ≡ with_whole (sort_facts (sort_there s)) (form_ended s)
 
--- C4: the types are those beside an operator, or of an expression and of what it is assigned to or stands for. Of the facts, by which
--- a sentence is chosen, nothing is promised.
+-- C4: the types are those beside an operator, or of an expression and of what it is assigned to or stands for; the line is that of the
+-- heading of the procedure that is called there. Of the facts, by which a sentence is chosen, nothing is promised.
 pub record IsOtherType (s : Scene) (e : Evidence) : Type 0 where
   pub wanted : e.wanted ≡ (types_there s).wanted
   pub found : e.found ≡ (types_there s).found
+  pub line : e.line ≡ declared_line s.text (called_name s.text s.known s.before)
 
 -- C5: the operands are those beside the operator, which is the one at the place.
 pub record IsNoConstant (s : Scene) (facts : List Fact) (e : Evidence) : Type 0 where
@@ -102,11 +108,14 @@ pub record IsNoLength (s : Scene) (facts : List Fact) (e : Evidence) : Type 0 wh
   pub first : e.first ≡ written s.text (length_there s)
   pub noted : facts ≡ facts_in ((is_known (length_there s), Facts.First) ∷ [])
 
--- C7: the actuals are those of the call, the parameters those of the procedure.
+-- C7: the actuals are those of the call, the parameters those of the procedure, which is declared in the line; the other line is that of
+-- the procedure that is called where an actual stands.
 pub record AreOtherActuals (s : Scene) (facts : List Fact) (e : Evidence) : Type 0 where
   pub count : e.count ≡ actual_count s.behind
   pub most : e.most ≡ parameters (sort_there s)
-  pub noted : facts ≡ sort_facts (sort_there s)
+  pub line : e.line ≡ declared_line s.text (declared s)
+  pub other_line : e.other_line ≡ declared_line s.text (called_name s.text s.known s.before)
+  pub noted : facts ≡ with_fact (sort_facts (sort_there s)) (is_there (called_name s.text s.known s.before)) Facts.Before
 
 -- C9: the words are those of the type, or of the variables.
 pub record IsBeyondLimit (s : Scene) (facts : List Fact) (e : Evidence) : Type 0 where

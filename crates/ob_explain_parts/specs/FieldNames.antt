@@ -1,5 +1,5 @@
 -- The fields of the record of which a place selects one.
-use Rattle.std.specs.Prelude.{ℕ, nat_lt, List, [], drop, filter, Option, Some, None}
+use Rattle.std.specs.Prelude.{ℕ, nat_lt, ◌++◌, List, [], ◌∷◌, codes, drop, filter, flat_map, take, Option, Some, None}
 use Rattle.ob_scan.specs.declared.token.Token.{Token}
 use Rattle.ob_explain_names.specs.Lookup.{name_at}
 use Rattle.ob_explain_names.specs.declared.known.Known.{Known}
@@ -37,3 +37,19 @@ fields_from text known tokens (Some t) place = fields_of_name text known tokens 
 -- a dot stands before the place, and before that the variable with selectors
 abbrev pub fields_at : (text : List ℕ) → List Known → List Token → (place : ℕ) → List Token
 fields_at text known tokens place = fields_from text known tokens (operand_start 0 None (drop 1 (Tokens.before place tokens))) place
+
+-- a comma and the name of a field
+abbrev pub behind_comma : (text : List ℕ) → Token → List ℕ
+behind_comma text t = codes ", " ++ name_at text t.start
+
+abbrev pub further : (text : List ℕ) → List Token → List ℕ
+further text fields = flat_map (behind_comma text) fields
+
+-- the names of fields, with commas between them
+abbrev pub listed : (text : List ℕ) → List Token → List ℕ
+listed text [] = []
+listed text (t ∷ rest) = name_at text t.start ++ further text rest
+
+-- of six of them at most
+abbrev pub listed_fields : (text : List ℕ) → List Token → List ℕ
+listed_fields text fields = listed text (take 6 fields)

@@ -84,3 +84,12 @@ form_in_call text known tokens (Some t) number = form_in_procedure text known to
 abbrev pub parameter_form : (text : List ℕ) → List Known → List Token → (before : List Token) → Form
 parameter_form text known tokens before =
     form_in_call text known tokens (handed_at None 0 before).first (handed_at None 0 before).number
+
+-- the name that the first token of a call is
+abbrev pub called_by : (text : List ℕ) → List Known → (first : Option Token) → Option Known
+called_by text known None = None
+called_by text known (Some t) = declared_as text known (name_at text t.start)
+
+-- the name that is called where an actual stands, by the tokens before it, the last one first
+abbrev pub called_name : (text : List ℕ) → List Known → (before : List Token) → Option Known
+called_name text known before = called_by text known (handed_at None 0 before).first

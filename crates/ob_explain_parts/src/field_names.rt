@@ -1,7 +1,8 @@
 //! The fields of the record of which a place selects one.
 
-ghost use Rattle.std.specs.Prelude.{◌≡◌, IfOk};
-ghost use Rattle.ob_explain_parts.specs.FieldNames.{between, fields_at, fields_by, fields_from, fields_of_name, fields_of_part};
+ghost use Rattle.std.specs.Prelude.{◌≡◌, ◌++◌, IfOk, OnOk};
+ghost use Rattle.ob_explain_parts.specs.FieldNames.{behind_comma, between, fields_at, fields_by, fields_from, fields_of_name, fields_of_part, further};
+ghost use Rattle.ob_explain_parts.specs.FieldNames.{listed, listed_fields};
 
 use crate::declared_types::{Standing, declared_type, fields_of, meant};
 use crate::variable_parts::{operand_start, selected};
@@ -125,4 +126,45 @@ fn between(
         .copied()
         .filter(|token| token.start < place)
         .collect(alloc)
+}
+
+/// The names of these fields, of six of them at most, with commas between them.
+pub fn listed_fields(alloc: Global, text: &[u8], fields: &[Token]) -> Result<Vec<u8>, AllocError>
+    ensures { IfOk result (λ names. names.items ≡ listed_fields text.now fields.now) }
+{
+    let most: usize = 6;
+    listed(alloc, text, fields.split_at(most.min(fields.len())).0)
+}
+
+/// The names of all of these, with commas between them.
+fn listed(alloc: Global, text: &[u8], fields: &[Token]) -> Result<Vec<u8>, AllocError>
+    ensures { IfOk result (λ names. names.items ≡ listed text.now fields.now) }
+{
+    match fields {
+        [] => Ok(Vec::new(alloc)),
+        [first, rest @ ..] => {
+            let mut names = Vec::from_slice(alloc, name_at(text, first.start))?;
+            push_further(&mut names, text, rest)?;
+            Ok(names)
+        }
+    }
+}
+
+/// Appends the names of further fields.
+fn push_further(names: &mut Vec<u8>, text: &[u8], fields: &[Token]) -> Result<(), AllocError>
+    ensures { OnOk result (names.new.items ≡ names.old.items ++ further text.now fields.now) }
+{
+    for field in fields {
+        push_behind_comma(names, text, *field)?;
+    }
+    Ok(())
+}
+
+/// Appends a comma and the name of a field.
+fn push_behind_comma(names: &mut Vec<u8>, text: &[u8], field: Token) -> Result<(), AllocError>
+    ensures { OnOk result (names.new.items ≡ names.old.items ++ behind_comma text.now field) }
+{
+    names.extend_from_slice(b", ")?;
+    names.extend_from_slice(name_at(text, field.start))?;
+    Ok(())
 }

@@ -1,7 +1,8 @@
 //! The parameter to which an actual is handed, by the tokens before it.
 
 ghost use Rattle.std.specs.Prelude.{◌≡◌, ◌≤◌, None, IfOk, false};
-ghost use Rattle.ob_explain_parts.specs.Parameters.{comma, form_by_sort, form_in_call, form_in_procedure, handed_at, is_outside, is_parameter};
+ghost use Rattle.ob_explain_parts.specs.Parameters.{called_by, called_name, comma, form_by_sort, form_in_call, form_in_procedure, handed_at, is_outside};
+ghost use Rattle.ob_explain_parts.specs.Parameters.{is_parameter};
 ghost use Rattle.ob_explain_parts.specs.Parameters.{parameter_form, parameter_named, parameter_type, still_in_type};
 
 use crate::declared_types::{Standing, declared_type};
@@ -33,6 +34,23 @@ pub fn parameter_form(
 {
     let handed = handed_at(before);
     form_in_call(alloc, text, known, tokens, handed.first, handed.number)
+}
+
+/// The name that is called where an actual stands, by the tokens before it, the last one first.
+pub fn called_name(text: &[u8], known: &[Known], before: &[Token]) -> Option<Known>
+    ensures { result ≡ called_name text.now known.now before.now }
+{
+    called_by(text, known, handed_at(before).first)
+}
+
+/// The name that the first token of a call is.
+fn called_by(text: &[u8], known: &[Known], first: Option<Token>) -> Option<Known>
+    ensures { result ≡ called_by text.now known.now first }
+{
+    match first {
+        Some(token) => declared_as(text, known, name_at(text, token.start)),
+        None => None,
+    }
 }
 
 /// The call in which these tokens stand, the last one first, and the number of the actual behind them.

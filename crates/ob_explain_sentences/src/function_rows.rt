@@ -25,8 +25,14 @@ pub const FUNCTION_ROWS: &[Row] = rows! {
     ["ABS"] => "there is no ABS; write IF x < 0 THEN x := -x END";
     ["ODD"] => "there is no ODD; write x MOD 2 = 1";
     ["LEN"] => "there is no LEN; declare the length as a constant, as CONST n = 4, and the type as ARRAY n OF INTEGER";
+    ["LENGTH", "SIZE", "SIZEOF", "HIGH"] =>
+        "the length of an array is the number in its type; declare it as CONST n = 4, and the type as ARRAY n OF INTEGER";
+    ["SQR", "POW", "POWER"] => "there are no powers; write a product, as x * x";
+    ["SUCC"] => "there is no SUCC; write x + 1";
+    ["PRED"] => "there is no PRED; write x - 1";
+    ["RANDOM", "RAND"] => "there are no random numbers; a value comes by a parameter of an export";
     ["ORD"] => "there is no ORD; write IF b THEN x := 1 ELSE x := 0 END";
     ["CHR", "CAP"] => NO_CHARACTER;
-    ["ENTIER", "FLOOR", "FLT"] => NO_REAL;
+    ["ENTIER", "FLOOR", "FLT", "TRUNC", "ROUND", "SQRT"] => NO_REAL;
     ["ASH", "ASR", "LSL", "LSR", "ROR", "SHL", "SHR"] => NO_SHIFT;
 };

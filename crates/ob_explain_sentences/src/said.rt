@@ -16,7 +16,7 @@ use std::alloc::{AllocError, Global};
 /// What is known of a fault.
 #[derive(Clone, Copy)]
 pub struct Evidence<'a> {
-    /// A name, and two numbers, as they are written.
+    /// A name, and two numbers, as they are written; the first is a list of fields too.
     pub name: &'a [u8],
     pub first: &'a [u8],
     pub second: &'a [u8],

@@ -1,4 +1,5 @@
-//! The sentences, of each fault the first that holds, and their ends.
+//! The sentences, of each fault the first that holds, and their ends: of S1 to C3 in `SENTENCE_ROWS`, of C4 in `TYPE_ROWS`, of C5 to C10 in
+//! `LIMIT_ROWS`, and the ends of all of them in `END_ROWS`.
 
 use crate::table_rows::WhenOf::{Here, Is, Last, Never, Next, On, Word};
 use crate::table_rows::{Fact, Number, Piece, PieceOf, Row};
@@ -21,9 +22,10 @@ const ANOTHER_TYPE: Piece = PieceOf::Text(
     "this is of another type than the one that is needed here",
 );
 
+// These are of S1 to C3. Those of C4 stand in `TYPE_ROWS`, those of C5 to C10 in `LIMIT_ROWS`, and ends of all of them in `END_ROWS`.
 /// What the rule asks, and what stands there.
 pub const SENTENCE_ROWS: &[Row] = rows! {
-    [On(Number::S1)] => PieceOf::Text("no token begins with this byte; a module has ASCII letters, digits, blanks and the symbols of the language");
+    [On(Number::S1)] => PieceOf::Text("no word, number or sign of the language begins with this character");
     [On(Number::S2)] => PieceOf::Text("a number is at most 2147483647");
     [On(Number::S3)] => PieceOf::Text("this comment has no end; comments nest, and each (* has its own *)");
     [On(Number::S4)] => PieceOf::Text("a name has at most 64 characters");
@@ -74,7 +76,8 @@ pub const LIMIT_ROWS: &[Row] = rows! {
     [On(Number::C7), Last(&[Kind::LeftParen, Kind::Comma])] => PieceOf::Text("a parameter with VAR takes a variable, and nothing else");
     [On(Number::C7), Is(Fact::Procedure)] =>
         PieceOf::Text("this call has "), PieceOf::Count, PieceOf::Text(" argument"), PieceOf::CountEnd,
-        PieceOf::Text(", and the procedure has "), PieceOf::Most, PieceOf::Text(" parameter"), PieceOf::MostEnd;
+        PieceOf::Text(", and the procedure of line "), PieceOf::Line, PieceOf::Text(" has "), PieceOf::Most,
+        PieceOf::Text(" parameter"), PieceOf::MostEnd;
     [On(Number::C7)] => PieceOf::Text("this call has more or fewer arguments than the procedure has parameters");
     [On(Number::C8)] => PieceOf::Text(
         "a procedure sees its own variables and those of the module, and none of a procedure around it; hand it over as a parameter, with VAR where it is changed",
@@ -136,6 +139,7 @@ pub const END_ROWS: &[Row] = rows! {
     [On(Number::P1), Is(Fact::Expected), Last(&[Kind::RightParen]), Never(&[Kind::And]), Is(Fact::UndeclaredCall), Word(&["RETURN"])] =>
         PieceOf::Text(" behind RETURN (..), which is read as a call");
     [On(Number::C1), Is(Fact::Near)] => PieceOf::Text("; did you mean `"), PieceOf::Name, PieceOf::Text("`?");
+    [On(Number::C1), Last(&[Kind::Dot]), Is(Fact::First)] => PieceOf::Text("; it has `"), PieceOf::First, QUOTE;
     [On(Number::C3), Is(Fact::Named), Last(&[Kind::Colon, Kind::Of])] => PieceOf::Text(", and the name of a type is needed here");
     [
         On(Number::C3), Is(Fact::Named),
@@ -165,12 +169,15 @@ pub const END_ROWS: &[Row] = rows! {
     [On(Number::C4), Is(Fact::TwoArrays)] => PieceOf::Text("; two types are the same only where one name declares them");
     [On(Number::C4), Is(Fact::TwoRecords)] => PieceOf::Text("; two types are the same only where one name declares them");
     [On(Number::C4), Is(Fact::Other), Last(&[Kind::Assign])] => PieceOf::Text(", and the variable before it is "), PieceOf::Wanted;
-    [On(Number::C4), Is(Fact::Other), Last(&[Kind::LeftParen, Kind::Comma])] => PieceOf::Text(", and the parameter is "), PieceOf::Wanted;
+    [On(Number::C4), Is(Fact::Other), Last(&[Kind::LeftParen, Kind::Comma])] => 
+        PieceOf::Text(", and the parameter in the heading of line "), PieceOf::Line, PieceOf::Text(" is "), PieceOf::Wanted;
     [On(Number::C4), Is(Fact::Other), Last(&[Kind::Array])] => PieceOf::Text(", and the length of an array is "), PieceOf::Wanted;
     [On(Number::C4), Is(Fact::Other), Last(&[Kind::LeftBracket])] => PieceOf::Text(", and an index is "), PieceOf::Wanted;
     [On(Number::C4), Is(Fact::Other)] => PieceOf::Text(", and a condition is "), PieceOf::Wanted;
     [On(Number::C5), Here(&[Kind::Plus, Kind::Minus, Kind::Times])] =>
         PieceOf::Text(" is outside -2147483648 to 2147483647, so there is no constant");
+    [On(Number::C7), Last(&[Kind::LeftParen, Kind::Comma]), Is(Fact::Before)] =>
+        PieceOf::Text("; the heading of the procedure stands in line "), PieceOf::OtherLine;
     [On(Number::C9), Is(Fact::Counted), Is(Fact::Words)] => PieceOf::Count;
     [On(Number::C9), Is(Fact::Counted)] => PieceOf::Text("more");
 };

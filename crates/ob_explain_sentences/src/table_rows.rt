@@ -168,7 +168,7 @@ pub enum Fact {
     /// A whole array stands in an expression, or a whole record.
     ArrayThere,
     RecordThere,
-    /// The first operand, and the second one, are known.
+    /// The first operand, or the fields, and the second operand are known.
     First,
     Second,
     /// It stands in parentheses; in a procedure.
@@ -220,7 +220,7 @@ pub enum PieceOf<Text> {
     Text(Text),
     /// A name as it is written.
     Name,
-    /// Two numbers as they are written.
+    /// Two numbers as they are written; the first is a list of fields too.
     First,
     Second,
     /// What could stand there.

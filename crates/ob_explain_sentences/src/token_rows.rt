@@ -3,7 +3,8 @@
 use crate::table_rows::WhenOf::{Could, Here, Is, Last, Never, Next, Not, On, Second, Sign, Word};
 use crate::table_rows::{Fact, Number, Piece, PieceOf, Row};
 use crate::word_rows::{
-    IN_CAPITALS, NO_CASE, NO_FOR, NO_POINTER, NO_REAL, NO_SHIFT, PROCEDURE_FORM, PROCEDURE_WORDS,
+    IN_CAPITALS, NO_CASE, NO_FOR, NO_INPUT_OUTPUT, NO_POINTER, NO_REAL, NO_SHIFT, PROCEDURE_FORM,
+    PROCEDURE_WORDS,
 };
 use ob_scan::Kind;
 
@@ -129,6 +130,14 @@ const ARRAY_TYPE: &[Piece] = &[PieceOf::Text(
     "an array type is written ARRAY 4 OF INTEGER; its indices are 0 to 3",
 )];
 
+const ARRAY_LENGTH: &[Piece] = &[PieceOf::Text(
+    "the length of an array is one number; ARRAY 10 OF INTEGER has the elements 0 to 9",
+)];
+
+const NO_ARRAY_VALUE: &[Piece] = &[PieceOf::Text(
+    "there are no values of whole arrays; assign element by element, as a[0] := 1; a[1] := 2",
+)];
+
 const NO_VALUE: &[Piece] = &[PieceOf::Text(
     "a variable is declared without a value, as x: INTEGER; what assigns one is a statement, and stands behind BEGIN",
 )];
@@ -207,6 +216,35 @@ const FOREIGN_CALL: &[Piece] = &[PieceOf::Text(
     "there are no methods and no other modules; a call begins with the name of a procedure of this module, as P(a, 1)",
 )];
 
+const INPUT_OUTPUT: &[Piece] = &[PieceOf::Text(NO_INPUT_OUTPUT)];
+
+/// Procedures by which modules of other languages read and print.
+const OUTPUT_WORDS: &[&str] = &[
+    "INT",
+    "LN",
+    "CHAR",
+    "STRING",
+    "REAL",
+    "PRINT",
+    "PRINTLN",
+    "PRINTF",
+    "WRITE",
+    "WRITELN",
+    "WRITELINE",
+    "READ",
+    "READLN",
+    "READLINE",
+];
+
+/// Tokens that end a statement.
+const END_STATEMENT: &[Kind] = &[
+    Kind::Semicolon,
+    Kind::End,
+    Kind::Elsif,
+    Kind::Else,
+    Kind::Until,
+];
+
 /// Names that are meant to be keywords, calls, and what stands behind a heading.
 pub const SIGN_ROWS: &[Row] = rows! {
     [Is(Fact::Keyword), Word(&["XOR"])] => &[PieceOf::Text("there is no XOR; of two BOOLEANs a # b says that one is TRUE and one is not")];
@@ -219,7 +257,14 @@ pub const SIGN_ROWS: &[Row] = rows! {
     [Here(&[Kind::Semicolon]), Could(&[Kind::RightParen]), Word(&["FOR", "FOREACH"])] => &[PieceOf::Text(NO_FOR)];
     [Here(&[Kind::Assign, Kind::LeftParen]), Last(&[Kind::Ident]), Second(&[Kind::Dot]), Is(Fact::LineEnded)] => ENDED_BY_DOT;
     [Here(&[Kind::LeftParen]), Is(Fact::PartOfProcedure), Never(&[Kind::Assign])] => NO_FUNCTION;
+    [Here(&[Kind::LeftParen]), Last(&[Kind::Ident]), Second(&[Kind::Dot]), Is(Fact::NoArray), Word(OUTPUT_WORDS)] => INPUT_OUTPUT;
     [Here(&[Kind::LeftParen]), Last(&[Kind::Ident]), Second(&[Kind::Dot]), Is(Fact::NoArray)] => FOREIGN_CALL;
+    [Here(END_STATEMENT), Last(&[Kind::Ident]), Second(&[Kind::Dot]), Could(&[Kind::Assign]), Is(Fact::LineEnded)] => ENDED_BY_DOT;
+    [Here(END_STATEMENT), Last(&[Kind::Ident]), Second(&[Kind::Dot]), Could(&[Kind::Assign]), Is(Fact::NoArray), Word(OUTPUT_WORDS)] =>
+        INPUT_OUTPUT;
+    [Here(END_STATEMENT), Last(&[Kind::Ident]), Second(&[Kind::Dot]), Could(&[Kind::Assign]), Is(Fact::NoArray)] => FOREIGN_CALL;
+    [Here(END_STATEMENT), Last(&[Kind::Ident, Kind::RightBracket]), Could(&[Kind::Assign]), Never(&[Kind::LeftParen])] =>
+        &[PieceOf::Text("a variable alone is no statement; an assignment changes it: x := x + 1")];
     [Here(&[Kind::LeftParen]), Could(&[Kind::LeftBracket]), Word(&["INTEGER", "BOOLEAN", "INT", "BOOL"])] => &[PieceOf::Text(
         "no type is made into another one; a BOOLEAN gives a number by IF b THEN x := 1 ELSE x := 0 END",
     )];
@@ -400,6 +445,7 @@ pub const SEPARATOR_ROWS: &[Row] = rows! {
     [Last(&[Kind::Assign]), Here(BEGIN_NO_OPERAND), Could(&[Kind::Number])] => &[PieceOf::Text("is a value missing behind the :=?")];
     [Last(&[Kind::If, Kind::Elsif, Kind::While, Kind::Until]), Here(BEGIN_NO_OPERAND), Could(&[Kind::Number])] =>
         &[PieceOf::Text("is a condition missing before it?")];
+    [Last(&[Kind::Assign, Kind::Equal, Kind::LeftParen, Kind::Comma]), Here(&[Kind::LeftBracket]), Could(&[Kind::Number])] => NO_ARRAY_VALUE;
     [Last(&[Kind::LeftBracket]), Here(&[Kind::RightBracket]), Could(&[Kind::Number])] =>
         &[PieceOf::Text("an index stands between [ and ]: a[i]")];
     [Last(&[Kind::LeftParen]), Here(&[Kind::RightParen]), Could(&[Kind::Number])] =>
@@ -478,8 +524,10 @@ pub const DECLARATION_ROWS: &[Row] = rows! {
     [Here(&[Kind::Equal, Kind::Assign]), Could(&[Kind::Colon]), Is(Fact::InParens)] => NO_PARAMETER_VALUE;
     [Here(&[Kind::LeftBracket]), Could(&[Kind::Colon])] => ARRAY_TYPE;
     [Here(&[Kind::LeftBracket]), Last(&[Kind::Ident]), Second(&[Kind::Colon, Kind::Of])] => ARRAY_TYPE;
-    [Here(&[Kind::LeftBracket, Kind::Of]), Last(&[Kind::Array])] => ARRAY_TYPE;
-    [Here(&[Kind::Dot]), Could(&[Kind::Of]), Next(&[Kind::Dot])] => ARRAY_TYPE;
+    [Here(&[Kind::LeftBracket]), Last(&[Kind::Array])] => ARRAY_LENGTH;
+    [Here(&[Kind::Of]), Last(&[Kind::Array])] => ARRAY_TYPE;
+    [Here(&[Kind::Dot]), Could(&[Kind::Of]), Next(&[Kind::Dot])] => ARRAY_LENGTH;
+    [Here(&[Kind::Colon]), Could(&[Kind::Of])] => ARRAY_LENGTH;
     [Here(&[Kind::Equal, Kind::Assign]), Could(&[Kind::Colon]), Not(Fact::StillOpen)] => NO_VALUE;
     [Here(&[Kind::Equal, Kind::Assign]), Last(&[Kind::Ident]), Second(&[Kind::Colon, Kind::Of])] => NO_VALUE;
     [Here(&[Kind::Comma]), Second(&[Kind::Semicolon]), Could(&[Kind::Equal]), Never(&[Kind::Less])] => VARIABLES;
@@ -558,15 +606,22 @@ pub const RULE_ROWS: &[Row] = rows! {
     [On(Number::C3), Sign(".\n")] => ENDED_BY_DOT;
     [On(Number::C3), Sign(".\r")] => ENDED_BY_DOT;
     [On(Number::C3), Here(&[Kind::LeftBracket]), Is(Fact::RecordBefore)] => &[PieceOf::Text("a field is written r.f")];
+    [On(Number::C3), Here(&[Kind::LeftBracket]), Last(&[Kind::RightBracket])] => &[PieceOf::Text(
+        "a further index stands behind an array of arrays, as of ARRAY 2 OF ARRAY 3 OF INTEGER",
+    )];
     [On(Number::C3), Here(&[Kind::Dot]), Is(Fact::ArrayBefore), Word(&["LENGTH", "LEN", "SIZE", "COUNT"])] => &[PieceOf::Text(
         "the length of an array is the number in its type; declare it as CONST n = 4, and the type as ARRAY n OF INTEGER",
     )];
     [On(Number::C3), Here(&[Kind::Dot]), Is(Fact::ArrayBefore)] =>
-        &[PieceOf::Text("a field of an element is written a[i].f")];
+        &[PieceOf::Text("an element is written a[i], and a field of it a[i].f")];
     [On(Number::C4), Here(&[Kind::Not]), Is(Fact::Compared)] =>
         &[PieceOf::Text("~ takes the one operand behind it; that a comparison does not hold is written ~(a = b), or a # b")];
     [On(Number::C4), Here(&[Kind::And, Kind::Or]), Is(Fact::Compared)] => COMPARISON;
     [On(Number::C4), Here(&[Kind::And]), Is(Fact::WrongBefore)] => NO_BITS;
+    [On(Number::C4), Is(Fact::ArrayAssigned)] => &[PieceOf::Text("a loop does that: i := 0; WHILE i < n DO a[i] := b[i]; i := i + 1 END")];
+    [On(Number::C4), Is(Fact::RecordAssigned)] => &[PieceOf::Text("that is done by r.f := s.f for each field f")];
+    [On(Number::C4), Last(&[Kind::Assign, Kind::If, Kind::Elsif, Kind::While, Kind::Until, Kind::LeftBracket]), Is(Fact::OtherWhole)] =>
+        &[PieceOf::Text("take one value of it: an element a[i], or a field r.f")];
     [On(Number::C4), Last(&[Kind::If, Kind::Elsif, Kind::While, Kind::Until]), Is(Fact::OtherSingle)] =>
         &[PieceOf::Text("a number is no condition; write a comparison, as x # 0")];
     [

@@ -91,6 +91,14 @@ const PRINTING_WORDS: &[&str] = &[
 
 const READING_WORDS: &[&str] = &["READ", "READLN", "READINT", "INPUT", "SCANF"];
 
+/// On the modules of other languages that do both.
+pub const NO_INPUT_OUTPUT: &str =
+    "a module reads and prints nothing; a procedure takes values by its parameters, and gives them by its VAR parameters";
+
+const EXPORTED: &str = "a procedure that is exported has a * behind its name: PROCEDURE Get*";
+
+const NOT_EXPORTED: &str = "a procedure without a * behind its name is known in this module alone";
+
 const COMMENT: &str = "a comment is written (* .. *)";
 
 const NO_SET: &str =
@@ -106,8 +114,10 @@ pub const BYTE_ROWS: &[Row] = rows! {
     [Sign("_")] => "a name has letters and digits, and no underscores";
     [Sign("\"")] => "there are no strings; a value is a number, TRUE or FALSE";
     [Sign("'")] => "there are no characters; a value is a number, TRUE or FALSE";
-    [Sign("{")] => "there are no sets and no blocks in braces; statements stand between THEN, DO or BEGIN and END, and a comment is written (* .. *)";
-    [Sign("!")] => "not equal is written #, and not is written ~";
+    [Sign("{")] => "a comment is written (* .. *); there are no blocks in braces: statements stand between THEN, DO or BEGIN and END";
+    [Sign("}")] => "there are no blocks in braces; IF, WHILE, a procedure and the module end with END";
+    [Sign("!=")] => "not equal is written #";
+    [Sign("!")] => "not is written ~";
     [Sign("//")] => "a comment is written (* .. *), and a quotient with DIV";
     [Sign("/*")] => COMMENT;
     [Sign("/")] => "a quotient is written with DIV";
@@ -117,6 +127,7 @@ pub const BYTE_ROWS: &[Row] = rows! {
     [Sign("%")] => "a remainder is written with MOD";
     [Sign("?")] => "there is no ? :; write IF, and an assignment behind THEN and behind ELSE";
     [Sign("^"), Is(Fact::TypeAwaited)] => NO_POINTER;
+    [Sign("^.")] => "there are no pointers; a field is written behind its record, as r.f";
     [Sign("^")] => "there are no powers, no pointers and no forward declarations; a product is written x * x";
     [Sign("\u{feff}")] => "a byte order mark stands there, which no editor shows; save the file without it";
     [Is(Fact::NotAscii)] => "outside comments all is ASCII: no letters with accents, no typographic quotes or dashes, no special blanks";
@@ -153,16 +164,19 @@ const KEYWORDS: &[&str] = &[
 pub const WORD_ROWS: &[Row] = rows! {
     [Word(&["FOR"])] => NO_FOR;
     [Word(&["CASE"])] => NO_CASE;
-    [Word(&["RETURN"])] => "there is no RETURN; a procedure gives values by its VAR parameters";
+    [On(Number::C1), Word(&["RETURN"]), Next(&[Kind::Semicolon, Kind::End, Kind::Elsif, Kind::Else, Kind::Until])] =>
+        "there is no RETURN; a procedure ends at its END, so put what is left of it into an IF";
+    [Word(&["RETURN"])] => "there is no RETURN; a procedure gives values by its VAR parameters, to which it assigns them: v := x";
     [Word(&["IMPORT"])] => "there is no IMPORT; a module stands alone";
-    [Word(&["EXIT"])] => "there is no EXIT; a loop ends by its condition";
-    [Word(&["LOOP"])] => "there is no LOOP; use WHILE or REPEAT";
-    [Word(&["POINTER", "NIL", "NULL"])] => NO_POINTER;
+    [Word(&["EXIT"])] => "there is no EXIT; a loop ends by its condition, as in WHILE (i < n) & ~found DO";
+    [Word(&["LOOP"])] => "there is no LOOP; write WHILE i < n DO .. END or REPEAT .. UNTIL i = n";
+    [Word(&["POINTER"])] => NO_POINTER;
+    [Word(&["NIL", "NULL"])] => "there are no pointers; write an index of an array in place of a pointer, and -1 for none";
     [Word(&["AND"])] => "and is written &";
     [Word(&["NOT"])] => "not is written ~";
     [Word(&["ELSEIF", "ELIF"])] => "another case is written ELSIF";
     [Word(&["ENDIF"])] => "an IF ends with END";
-    [Word(&["BREAK"])] => "there is no BREAK; a loop ends by its condition";
+    [Word(&["BREAK"])] => "there is no BREAK; a loop ends by its condition, as in WHILE (i < n) & ~found DO";
     [Word(&["CONTINUE"])] => "there is no CONTINUE; put what is left of the turn into an IF";
     [Word(&["FUNCTION"])] => "there are no functions; a procedure gives its results by VAR parameters";
     [Word(&["WITH"])] => "there is no WITH; each field is written behind its record, as r.f";
@@ -195,7 +209,10 @@ pub const PLACED_WORD_ROWS: &[Row] = rows! {
         PROCEDURE_FORM;
     [Word(PROCEDURE_WORDS), Here(&[Kind::Ident]), Last(&[Kind::Ident]), Second(&[Kind::Semicolon]), Could(&[Kind::Equal])] =>
         PROCEDURE_FORM;
-    [Word(&["EXPORT", "PUBLIC"]), Could(&[Kind::Procedure])] => "a procedure that is exported has a * behind its name: PROCEDURE Get*";
+    [Word(&["EXPORT", "PUBLIC"]), Could(&[Kind::Procedure])] => EXPORTED;
+    [Word(&["EXPORT", "PUBLIC"]), Here(&[Kind::Procedure]), Last(&[Kind::Ident])] => EXPORTED;
+    [Word(&["PRIVATE"]), Here(&[Kind::Procedure]), Last(&[Kind::Ident])] => NOT_EXPORTED;
+    [Word(&["PRIVATE"]), Could(&[Kind::Procedure])] => NOT_EXPORTED;
     [Word(&["LET", "DIM", "VAL"]), Could(&[Kind::Procedure])] => DECLARATIONS;
     [Word(&["LET", "DIM", "VAL"]), Last(&[Kind::Ident]), Second(&[Kind::Semicolon]), Could(&[Kind::Colon])] => DECLARATIONS;
     [Word(&["LET", "DIM", "VAL"]), Last(&[Kind::Ident]), Could(&[Kind::Assign])] => DECLARATIONS;
@@ -226,7 +243,7 @@ pub const STATEMENT_WORD_ROWS: &[Row] = rows! {
 
 /// Names that other languages have.
 pub const NAME_ROWS: &[Row] = rows! {
-    [Is(Fact::FurtherDown)] => "this name is declared further down; it is known only behind its declaration";
+    [Is(Fact::FurtherDown)] => "this name is declared further down; it is known only behind its declaration, so move that up";
     [Is(Fact::OwnType)] =>
         "no type has a part of its own type, and there are no pointers; write an array of records, and an index in place of a pointer";
     [Is(Fact::OwnName)] => "this name is the one that is being declared, and it is known only behind its declaration";

@@ -44,10 +44,12 @@ visible here`.
       here; did you mean `Push`?
   MODULE M; BEGIN WHILE TRUE DO BREAK END END M.
     C1 at 30
-    hint: there is no BREAK; a loop ends by its condition
+    hint: there is no BREAK; a loop ends by its condition, as in WHILE (i < n)
+      & ~found DO
   MODULE M; PROCEDURE P; BEGIN RETURN END P; END M.
     C1 at 29
-    hint: there is no RETURN; a procedure gives values by its VAR parameters
+    hint: there is no RETURN; a procedure ends at its END, so put what is left
+      of it into an IF
   MODULE M; VAR x: INTEGER; BEGIN INC(x) END M.
     C1 at 32
     hint: there is no INC; write x := x + 1
@@ -283,22 +285,24 @@ variable, whether a variable begins it or it is a constant, by the name there.
 
   MODULE M; PROCEDURE P(x: INTEGER); END P; BEGIN P END M.
     C7 at 48
-    this call has 0 arguments, and the procedure has 1 parameter
+    this call has 0 arguments, and the procedure of line 1 has 1 parameter
   MODULE M; PROCEDURE P(x: INTEGER); END P; BEGIN P(1, 2) END M.
     C7 at 48
-    this call has 2 arguments, and the procedure has 1 parameter
+    this call has 2 arguments, and the procedure of line 1 has 1 parameter
   MODULE M; VAR b: INTEGER; PROCEDURE P(VAR x: INTEGER); END P; BEGIN P(b + 1) END M.
     C7 at 70
     a parameter with VAR takes a variable alone, and this one begins an
-      expression
+      expression; the heading of the procedure stands in line 1
     hint: put the value into a variable first, and hand that over
   MODULE M; CONST c = 1; PROCEDURE P(VAR x: INTEGER); END P; BEGIN P(c) END M.
     C7 at 67
-    a parameter with VAR takes a variable, and this is a constant
+    a parameter with VAR takes a variable, and this is a constant; the heading
+      of the procedure stands in line 1
     hint: put the value into a variable first, and hand that over
   MODULE M; PROCEDURE P(VAR x: INTEGER); END P; BEGIN P(1) END M.
     C7 at 54
-    a parameter with VAR takes a variable, and nothing else
+    a parameter with VAR takes a variable, and nothing else; the heading of the
+      procedure stands in line 1
     hint: put the value into a variable first, and hand that over
 
 All commands tell C1 to C10, the first in the text.

@@ -15,8 +15,8 @@ have no `_`; texts in quotes are not a part of the language; \"not equal\" is
 A byte order mark, which some editors write, stands at place 0 and is seen by
 no eye: save the file as UTF-8 without it, or as ASCII.
 
-Explained as `no token begins with this byte; a module has ASCII letters,
-digits, blanks and the symbols of the language`.
+Explained as `no word, number or sign of the language begins with this
+character`.
 
   MODULE M; VAR sum_1: INTEGER; END M.
     S1 at 17
@@ -36,12 +36,12 @@ digits, blanks and the symbols of the language`.
 
   MODULE M; VAR x: INTEGER; BEGIN x := {1} END M.
     S1 at 37
-    hint: there are no sets and no blocks in braces; statements stand between
-      THEN, DO or BEGIN and END, and a comment is written (* .. *)
+    hint: a comment is written (* .. *); there are no blocks in braces:
+      statements stand between THEN, DO or BEGIN and END
 
   MODULE M; VAR x: INTEGER; BEGIN IF x != 1 THEN END END M.
     S1 at 37
-    hint: not equal is written #, and not is written ~
+    hint: not equal is written #
 
   MODULE M; // text
     S1 at 10

@@ -9,6 +9,8 @@ told-requires c = record {
   number_type = c.is_number_type.result;
   own_type = c.is_own_type.result;
   own_name = c.is_own_name.result;
+  has_fields = c.is_token.result;
   name = rw (c.bytes_of.ensures, c.in_ok-near.ensures) refl;
-  noted = rw (c.of_facts.ensures, c.deref.ensures.value, c.in_ok-facts.ensures, c.is_near.ensures, c.in_ok-near.ensures) refl;
+  first = rw (c.deref-4.ensures.value, c.in_ok-first.ensures, c.deref.ensures.value, c.in_ok-fields.ensures) refl;
+  noted = rw (c.of_facts.ensures, c.deref-3.ensures.value, c.in_ok-facts.ensures, c.is_near.ensures, c.in_ok-near.ensures) refl;
 }
