@@ -4,8 +4,8 @@ use Rattle.std.specs.Char.{to_ascii_uppercase}
 use Rattle.std.specs.List.{fold}
 use Rattle.ob_explain_sentences.specs.Places.{place_in}
 use Rattle.ob_explain_sentences.specs.Shown.{shown_byte}
-use Rattle.ob_mendings.specs.declared.mending.Everywhere.{Everywhere}
-use Rattle.ob_mendings.specs.declared.mending.Everywhere.TheVariants as Each
+use Rattle.ob_mendings.specs.declared.mending.Elsewhere.{Elsewhere}
+use Rattle.ob_mendings.specs.declared.mending.Elsewhere.TheVariants as Each
 use Rattle.ob_mendings.specs.declared.mending.Mending.{Mending}
 use Rattle.ob_mendings.specs.declared.mending.Told.{Told}
 use Rattle.ob_mendings.specs.declared.mending.Told.TheVariants as By
@@ -25,18 +25,27 @@ spliced text m = take m.place text ++ filled_up m.put.items m.taken ++ drop m.ta
 abbrev pub letter_for : ℕ → ℕ
 letter_for b = if b == 95 then 120 else b
 
+-- a blank for each byte but a line feed
+abbrev pub blank_for : ℕ → ℕ
+blank_for b = if b == 10 then b else 32
+
+-- blanks for so many bytes from there on: `TYPE` from 2 on, of 2 bytes, is `TY  `
+abbrev pub blanked : (from bytes : ℕ) → (text : List ℕ) → List ℕ
+blanked from bytes text = take from text ++ map blank_for (take bytes (drop from text)) ++ drop bytes (drop from text)
+
 -- two texts differ at most in which of their letters are capital
 abbrev pub AreSameButForCase : List ℕ → List ℕ → Type 0
 AreSameButForCase text other = map to_ascii_uppercase text ≡ map to_ascii_uppercase other
 
 -- a mending changes a text to this one
-abbrev pub IsMendedBy : Everywhere → (text : List ℕ) → Mending → (whole : List ℕ) → Type 0
+abbrev pub IsMendedBy : Elsewhere → (text : List ℕ) → Mending → (whole : List ℕ) → Type 0
 IsMendedBy Each.Nothing text m whole = whole ≡ spliced text m
 IsMendedBy Each.Letters text m whole = whole ≡ map letter_for text
 IsMendedBy Each.Capitals text m whole = AreSameButForCase whole text
+IsMendedBy (Each.Moved from bytes) text m whole = whole ≡ spliced (blanked from bytes text) m
 
 abbrev pub IsMended : (text : List ℕ) → Mending → (whole : List ℕ) → Type 0
-IsMended text m whole = IsMendedBy m.everywhere text m whole
+IsMended text m whole = IsMendedBy m.elsewhere text m whole
 
 -- ---- how it is told
 

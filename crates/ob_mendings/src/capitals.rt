@@ -11,7 +11,7 @@ use ob_scan::{Kind, Token};
 use std::alloc::{AllocError, Global};
 
 /// The words of the language that have letters, in small ones.
-const WORDS: [&[u8]; 23] = [
+const WORDS: [&[u8]; 25] = [
     b"module",
     b"begin",
     b"end",
@@ -35,6 +35,8 @@ const WORDS: [&[u8]; 23] = [
     b"or",
     b"integer",
     b"boolean",
+    b"true",
+    b"false",
 ];
 
 /// The text with words of the language in capitals that it has in small letters.

@@ -1,7 +1,7 @@
 //! Mendings of a text: what is put in another's place, and how that is told.
 
 ghost use Rattle.std.specs.Prelude.{◌≡◌, IfOk, map, string_bytes};
-ghost use Rattle.ob_mendings.specs.Mendings.{IsMended, filled_up, letter_for, line_text, mending_text, move_of, put_text, spliced};
+ghost use Rattle.ob_mendings.specs.Mendings.{IsMended, blank_for, blanked, filled_up, letter_for, line_text, mending_text, move_of, put_text, spliced};
 
 use crate::capitals::in_capitals;
 use crate::origin::Move;
@@ -10,24 +10,26 @@ use ob_explain_sentences::place::{halves, place_in};
 use ob_explain_sentences::shown::push_line;
 use std::alloc::{AllocError, Global};
 
-/// A mending: at a place so many bytes are taken out, and others are put there, with blanks behind them up to as many; or a change everywhere.
+/// A mending: at a place so many bytes are taken out, and others are put there, with blanks behind them up to as many; or a change elsewhere.
 #[derive(Drop)]
 pub struct Mending {
     pub place: usize,
     pub taken: usize,
     pub put: Vec<u8>,
-    pub everywhere: Everywhere,
+    pub elsewhere: Elsewhere,
     pub told: Told,
 }
 
-/// What is changed wherever it stands, so that each byte stays at its place.
+/// What is changed elsewhere, so that each byte stays at its place.
 #[derive(Clone, Copy)]
-pub enum Everywhere {
+pub enum Elsewhere {
     Nothing,
-    /// A letter stands for each `_`.
+    /// A letter stands for each `_`, and nothing else is changed.
     Letters,
-    /// Words stand in capitals.
+    /// Words stand in capitals, and nothing else is changed.
     Capitals,
+    /// From this place on so many bytes are blanks, beside what is put at the mending's place: they were moved there.
+    Moved(usize, usize),
 }
 
 /// How a mending is told.
@@ -45,11 +47,44 @@ pub enum Told {
 pub fn mended(alloc: Global, text: &[u8], mending: &Mending) -> Result<Vec<u8>, AllocError>
     ensures { IfOk result (λ whole. IsMended text.now mending.now whole.items) }
 {
-    match mending.everywhere {
-        Everywhere::Nothing => spliced(alloc, text, mending),
-        Everywhere::Letters => lettered(alloc, text),
-        Everywhere::Capitals => in_capitals(alloc, text),
+    match mending.elsewhere {
+        Elsewhere::Nothing => spliced(alloc, text, mending),
+        Elsewhere::Letters => lettered(alloc, text),
+        Elsewhere::Capitals => in_capitals(alloc, text),
+        Elsewhere::Moved(from, bytes) => {
+            let rest = blanked(alloc, text, from, bytes)?;
+            spliced(alloc, &rest, mending)
+        }
     }
+}
+
+/// The text with blanks for so many bytes from a place on.
+fn blanked(alloc: Global, text: &[u8], from: usize, bytes: usize) -> Result<Vec<u8>, AllocError>
+    ensures { IfOk result (λ whole. whole.items ≡ blanked from bytes text.now) }
+{
+    let (before, rest) = halves(text, from);
+    let (moved, behind) = halves(rest, bytes);
+    let mut whole = Vec::from_slice(alloc, before)?;
+    whole.extend_from_slice(&blanks_for(alloc, moved)?)?;
+    whole.extend_from_slice(behind)?;
+    Ok(whole)
+}
+
+/// A blank for each byte but a line feed, so that each line stays where it is.
+fn blanks_for(alloc: Global, bytes: &[u8]) -> Result<Vec<u8>, AllocError>
+    ensures { IfOk result (λ blanks. blanks.items ≡ map blank_for bytes.now) }
+{
+    let mut blanks = Vec::new(alloc);
+    for byte in bytes {
+        blanks.push(blank_for(*byte))?;
+    }
+    Ok(blanks)
+}
+
+fn blank_for(byte: u8) -> u8
+    ensures { result ≡ blank_for byte }
+{
+    if byte == b'\n' { byte } else { b' ' }
 }
 
 /// The text with what is put at the place alone.

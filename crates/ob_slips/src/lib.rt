@@ -5,16 +5,13 @@
 //! as it was made. Which mending is chosen, and the words, may change without asking.
 #![tactic(auto)]
 
-mod fix;
+mod ends;
 pub mod further_faults;
 mod marks;
 mod names;
-mod part;
-mod signs;
 mod slip;
 pub mod slip_remark;
 pub mod stage;
-mod tokens;
 mod values;
 mod words;
 

@@ -1,17 +1,21 @@
 //! Tokens that are missing, or stand where another one is meant: by the tokens around a place, and by what could stand there.
 
-use crate::fix::{
-    BRACKET_BEFORE, COLON, COLON_BEFORE, COMMA_BEFORE, DO, DO_BEFORE, EQUAL, Fix, NOTHING,
-    OF_BEFORE, PAREN_BEFORE, SEMICOLON, SEMICOLON_THERE, THEN, THEN_BEFORE, TYPE_BEFORE, fixed,
-};
-use crate::part::is_in_body;
-use ob_evidence::text_site::{Site, kind_of};
+use ob_evidence::text_site::{Site, kind_of, rest_of};
+use ob_explain_names::declarations::first_of;
 use ob_explain_names::expected::expected_kinds;
 use ob_explain_sentences::first_word::is_same;
 use ob_explain_sentences::place::{halves, shown_place};
 use ob_explain_tokens::open::is_in_record;
 use ob_explain_words::declaring::declares;
-use ob_mendings::mending::Mending;
+use ob_mendings::fix::{
+    BEGIN_BEFORE, BEGIN_NAME, BRACKET_BEFORE, COLON, COLON_BEFORE, COMMA_BEFORE, COMMA_THERE,
+    CONST_BEFORE, DO, DO_BEFORE, EQUAL, Fix, INDEX, NOTHING, OF_ARRAY, OF_BEFORE, PAREN_BEFORE,
+    SEMICOLON, SEMICOLON_THERE, THEN, THEN_BEFORE, TYPE_BEFORE, TYPE_NAME, TYPE_SECTION,
+    UNTIL_WORD, VAR_BEFORE, VAR_NAME, fixed, put,
+};
+use ob_mendings::mending::{Mending, Told};
+use ob_mendings::part::is_in_body;
+use ob_mendings::tokens::{ends_line, length_of};
 use ob_scan::{Kind, Token};
 use std::alloc::{AllocError, Global};
 
@@ -28,22 +32,29 @@ struct Mark {
     meant: Meant,
 }
 
-/// What else is asked for: that a line ends before the place, that the text does not declare the name before it, that it declares the one there,
-/// or that the place stands in no record and in no body.
+/// What else is asked for: that a line ends before the place, that the text does not declare the name before it, or does, that it declares the
+/// one there, or does not, that the place stands in no record and in no body, or so with a type behind what comes next.
 #[derive(Clone, Copy)]
 enum Asked {
     Nothing,
     Line,
     New,
+    Old,
     Known,
+    Unknown,
     Outside,
+    Typed,
 }
 
-/// What is meant, before the token there or in its place.
+/// What is meant, before the token there, in its place, or before the last one.
 #[derive(Clone, Copy)]
 enum Meant {
     Before(Fix),
     There(Fix),
+    Last(Fix),
+    Second(Fix),
+    /// A `;`, which is told by its line where a line ends.
+    Semicolon(Fix),
 }
 
 /// A table: in each row what stands around the place, and what is meant.
@@ -66,6 +77,8 @@ const MARKS: &[Mark] = marks! {
     &[], Nothing, &[Kind::If, Kind::While, Kind::Repeat, Kind::End, Kind::Else, Kind::Elsif], &[], Kind::Then => Before THEN_BEFORE;
     &[], Nothing, &[Kind::Ident], &[Kind::Assign, Kind::LeftParen], Kind::Then => Before THEN_BEFORE;
     &[], Line, &[Kind::Ident], &[Kind::LeftBracket, Kind::Dot, Kind::Semicolon, Kind::End, Kind::Else, Kind::Elsif], Kind::Then => Before THEN_BEFORE;
+    // `IF x > 1 TEHN x := 2`
+    &[], Unknown, &[Kind::Ident], &[Kind::Ident, Kind::If, Kind::While, Kind::Repeat], Kind::Then => There THEN;
     // `IF x > 1:`, `IF x > 1; THEN`, `IF x > 1; x := 2`
     &[], Nothing, &[Kind::Colon, Kind::Do, Kind::Begin], &[], Kind::Then => There THEN;
     &[], Nothing, &[Kind::Semicolon], &[Kind::Then], Kind::Then => There NOTHING;
@@ -74,8 +87,19 @@ const MARKS: &[Mark] = marks! {
     &[], Nothing, &[Kind::If, Kind::While, Kind::Repeat], &[], Kind::Do => Before DO_BEFORE;
     &[], Nothing, &[Kind::Ident], &[Kind::Assign, Kind::LeftParen], Kind::Do => Before DO_BEFORE;
     &[], Line, &[Kind::Ident], &[Kind::LeftBracket, Kind::Dot, Kind::Semicolon, Kind::End], Kind::Do => Before DO_BEFORE;
+    // `WHILE x > 1 D0 x := 2`
+    &[], Unknown, &[Kind::Ident], &[Kind::Ident, Kind::If, Kind::While, Kind::Repeat], Kind::Do => There DO;
     &[], Nothing, &[Kind::Colon, Kind::Then, Kind::Begin], &[], Kind::Do => There DO;
     &[], Nothing, &[Kind::Semicolon], &[Kind::Do], Kind::Do => There NOTHING;
+    // `IF x > 1 THEN BEGIN`
+    &[Kind::Then, Kind::Else, Kind::Do, Kind::Repeat], Nothing, &[Kind::Begin], &[], Kind::If => There NOTHING;
+    // `REPEAT .. END`
+    &[], Nothing, &[Kind::End], &[], Kind::Until => There UNTIL_WORD;
+    // `a[i, j]`, `ARRAY 4, 5 OF INTEGER`
+    &[], Nothing, &[Kind::Comma], &[], Kind::RightBracket => There INDEX;
+    &[], Nothing, &[Kind::Comma], &[], Kind::Of => There OF_ARRAY;
+    // `P(1; 2)`
+    &[], Nothing, &[Kind::Semicolon], &[Kind::Number], Kind::Comma => There COMMA_THERE;
     // `ELSE:`
     &[Kind::Then, Kind::Else, Kind::Do, Kind::Repeat], Nothing, &[Kind::Colon], &[], Kind::If => There NOTHING;
     // `CONST n := 5`, `IF n := 5 THEN`, `CONST n: 5`, `TYPE T: ARRAY 4 OF INTEGER`
@@ -91,9 +115,20 @@ const MARKS: &[Mark] = marks! {
     &[Kind::Var, Kind::Comma, Kind::Semicolon, Kind::LeftParen], Known, &[Kind::Ident], &[Kind::Semicolon, Kind::RightParen], Kind::Colon => Before COLON_BEFORE;
     // `ARRAY 4 INTEGER`, `a[i := 2`
     &[], Nothing, &[Kind::Ident, Kind::Array, Kind::Record, Kind::Type], &[], Kind::Of => Before OF_BEFORE;
-    &[], Nothing, &[Kind::Assign, Kind::Then, Kind::Do, Kind::Semicolon, Kind::End], &[], Kind::RightBracket => Before BRACKET_BEFORE;
+    &[], Nothing, &[Kind::Assign, Kind::Then, Kind::Do, Kind::Semicolon, Kind::End, Kind::RightParen], &[], Kind::RightBracket => Before BRACKET_BEFORE;
     // `VAR x, y;`, `PROCEDURE P(x, y)`
     &[], Nothing, &[Kind::Semicolon, Kind::RightParen], &[], Kind::Colon => Before TYPE_BEFORE;
+    // a declaration or a statement in no section, or in one of another kind
+    &[], Typed, &[Kind::Ident], &[Kind::Equal], Kind::Type => Before TYPE_SECTION;
+    &[], Outside, &[Kind::Ident], &[Kind::Equal], Kind::Const => Before CONST_BEFORE;
+    &[], Outside, &[Kind::Ident], &[Kind::Colon, Kind::Comma], Kind::Var => Before VAR_BEFORE;
+    &[], Outside, &[Kind::Ident], &[Kind::Assign, Kind::LeftParen, Kind::LeftBracket, Kind::Dot], Kind::Begin => Before BEGIN_BEFORE;
+    &[], Outside, &[Kind::If, Kind::While, Kind::Repeat], &[], Kind::Begin => Before BEGIN_BEFORE;
+    &[Kind::Equal], Outside, &[Kind::Array, Kind::Record], &[], Kind::Number => Second TYPE_NAME;
+    &[Kind::Semicolon], Outside, &[Kind::Colon], TYPES, Kind::Equal => Last VAR_NAME;
+    &[Kind::Semicolon], Outside, &[Kind::Comma], &[Kind::Ident], Kind::Equal => Last VAR_NAME;
+    &[Kind::Semicolon], Old, &[Kind::Assign, Kind::LeftBracket, Kind::Dot], &[], Kind::Colon => Last BEGIN_NAME;
+    &[Kind::Semicolon], Old, &[Kind::Assign, Kind::LeftBracket, Kind::Dot], &[], Kind::Equal => Last BEGIN_NAME;
     // a second VAR
     &[Kind::Semicolon, Kind::Comma], Outside, &[Kind::Var], &[Kind::Ident], Kind::Ident => There NOTHING;
     // `VAR x: INTEGER, y: INTEGER`, `CONST n = 5, m = 6`
@@ -115,8 +150,8 @@ const MARKS: &[Mark] = marks! {
     &[Kind::LeftParen, Kind::Comma], Nothing, &[Kind::Ident, Kind::Number], &[Kind::Comma, Kind::RightParen], Kind::Comma => Before COMMA_BEFORE;
     // `x := 1 y := 2`, `PROCEDURE P(x: INTEGER) BEGIN`
     &[Kind::Assign, Kind::Plus, Kind::Minus, Kind::Times, Kind::Div, Kind::Mod, Kind::RightBracket, Kind::End], Nothing, &[Kind::Ident],
-        &[Kind::Assign], Kind::Semicolon => Before SEMICOLON;
-    &[Kind::RightParen], Nothing, &[Kind::Const, Kind::Var, Kind::Procedure, Kind::Begin], &[], Kind::Semicolon => Before SEMICOLON;
+        &[Kind::Assign], Kind::Semicolon => Semicolon SEMICOLON;
+    &[Kind::RightParen], Nothing, &[Kind::Const, Kind::Var, Kind::Procedure, Kind::Begin], &[], Kind::Semicolon => Semicolon SEMICOLON;
 };
 
 /// The mending by a mark that stands around the place.
@@ -126,15 +161,15 @@ pub(crate) fn mark_mending(
 ) -> Result<Option<Mending>, AllocError> {
     let could = expected_kinds(alloc, site.text, site.place)?;
     match first_around(site, &could) {
-        Some(mark) if holds_there(site, mark.asked) => meant_there(alloc, site, mark.meant),
-        _ => Ok(None),
+        Some(mark) => meant_there(alloc, site, mark.meant),
+        None => Ok(None),
     }
 }
 
 /// The first mark that stands around the place.
 fn first_around(site: &Site<'_, '_>, could: &[Kind]) -> Option<Mark> {
     for mark in MARKS {
-        if stands_around(site, could, mark) {
+        if stands_around(site, could, mark) && holds_there(site, mark.asked) {
             return Some(*mark);
         }
     }
@@ -155,15 +190,21 @@ fn holds_there(site: &Site<'_, '_>, asked: Asked) -> bool {
         Asked::Nothing => true,
         Asked::Line => ends_line(halves(site.text, site.place).0),
         Asked::New => !declares(site.text, site.tokens, site.word_of(site.last())),
+        Asked::Old => declares(site.text, site.tokens, site.word_of(site.last())),
         Asked::Known => declares(site.text, site.tokens, site.word()),
-        Asked::Outside => !is_in_record(site.before) && !is_in_body(site.before),
+        Asked::Unknown => !declares(site.text, site.tokens, site.word()),
+        Asked::Outside => is_outside(site),
+        Asked::Typed => is_outside(site)
+            && is_asked(TYPES, kind_in(site, first_of(rest_of(site.behind)))),
     }
 }
 
-/// Whether a line feed stands among the blanks at the end.
-pub(crate) fn ends_line(bytes: &[u8]) -> bool {
-    let (_, blanks) = halves(bytes, shown_place(bytes, bytes.len()));
-    blanks.contains(&b'\n')
+/// With these a type begins.
+const TYPES: &[Kind] = &[Kind::Array, Kind::Record, Kind::Type];
+
+/// Whether the place stands in no record and in no body.
+fn is_outside(site: &Site<'_, '_>) -> bool {
+    !is_in_record(site.before) && !is_in_body(site.before)
 }
 
 /// The last token before the place that is no number, and no name but that of a type of the language.
@@ -207,13 +248,33 @@ fn meant_there(
     match meant {
         Meant::Before(fix) => fixed(alloc, site.place, 0, fix),
         Meant::There(fix) => fixed(alloc, site.place, length_of(site.here()), fix),
+        Meant::Semicolon(fix) if !ends_line(halves(site.text, site.place).0) => {
+            fixed(alloc, site.place, 0, fix)
+        }
+        Meant::Semicolon(_) => semicolon_behind(alloc, site),
+        Meant::Last(fix) => fixed(alloc, start_of(site.last()), 0, fix),
+        Meant::Second(fix) => fixed(alloc, start_of(site.second()), 0, fix),
     }
 }
 
-/// How many bytes a token has.
-pub(crate) fn length_of(token: Option<Token>) -> usize {
+/// Where a token begins.
+fn start_of(token: Option<Token>) -> usize {
     match token {
-        Some(token) => token.end.saturating_sub(token.start),
+        Some(token) => token.start,
         None => 0,
+    }
+}
+
+/// The mending that puts a `;` behind the last token before the place, at the end of its line.
+pub(crate) fn semicolon_behind(
+    alloc: Global,
+    site: &Site<'_, '_>,
+) -> Result<Option<Mending>, AllocError> {
+    match site.last() {
+        Some(last) => {
+            let told = Told::Line("with a ; at the end of line ", "");
+            put(alloc, last.end, 0, b";", told)
+        }
+        None => Ok(None),
     }
 }

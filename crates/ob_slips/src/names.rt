@@ -1,13 +1,13 @@
 //! Names that are not there, where another one is near; one behind END; and one that is declared twice.
 
-use crate::fix::worded;
-use crate::marks::length_of;
 use ob_diagnosis::module_remark::remark_on;
 use ob_evidence::nearest_names::{end_name, is_near, near_name};
 use ob_evidence::text_site::{Site, is_kind};
 use ob_explain_sentences::table_rows::Number;
 use ob_explain_words::distance::bytes_of;
+use ob_mendings::fix::{EXPORT, fixed, worded};
 use ob_mendings::mending::Mending;
+use ob_mendings::tokens::length_of;
 use ob_scan::Kind;
 use std::alloc::{AllocError, Global};
 
@@ -29,7 +29,8 @@ pub(crate) fn end_mending(
     site: &Site<'_, '_>,
 ) -> Result<Option<Mending>, AllocError> {
     match end_name(site) {
-        Some(name) if !has_hint(alloc, site, Number::P3)? => {
+        Some(name)
+            if is_kind(site.next(), Kind::Semicolon) || !has_hint(alloc, site, Number::P3)? => {
             named(alloc, site, site.word_of(Some(name)))
         }
         _ => Ok(None),
@@ -67,6 +68,19 @@ pub(crate) fn twice_mending(
         &name,
         " in its place",
     )
+}
+
+/// The mending of an export that may not be one: without its `*`.
+pub(crate) fn export_mending(
+    alloc: Global,
+    site: &Site<'_, '_>,
+) -> Result<Option<Mending>, AllocError> {
+    match site.next() {
+        Some(times) if times.kind == Kind::Times => {
+            fixed(alloc, times.start, length_of(Some(times)), EXPORT)
+        }
+        _ => Ok(None),
+    }
 }
 
 /// Whether a token of the text is this name.

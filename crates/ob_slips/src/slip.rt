@@ -1,25 +1,28 @@
 //! Which mending is chosen, by what stands at a fault of a text: the first one with which the text has no fault, or one further on. Which sorts
 //! are tried, and in which order, is a matter of taste: rows of the tests show it.
 
-use crate::fix::{END_BEFORE, END_THERE, SEMICOLON, fixed};
-use crate::marks::{ends_line, mark_mending};
-use crate::names::{end_mending, near_mending, twice_mending};
-use crate::part::part_mending;
-use crate::signs::{assign_mending, byte_mending, number_mending, sign_mending};
-use crate::tokens::first_of;
-use crate::values::{result_mending, value_mending};
+use crate::ends::{import_mending, inner_end, missing_dot, missing_end, nameless_end};
+use crate::marks::{mark_mending, semicolon_behind};
+use crate::names::{end_mending, export_mending, near_mending, twice_mending};
+use crate::values::{range_mending, result_mending, truth_mending, value_mending, var_mending};
 use crate::words::{
-    alone_before, alone_there, colon_mending, keyword_mending, misspelt_before, misspelt_there,
-    prefix_mending, swapped_mending, type_mending,
+    alone_before, alone_there, colon_mending, index_mending, keyword_mending, misspelt_before,
+    misspelt_there, pointer_mending, prefix_mending, swapped_mending, type_mending,
 };
 use ob_check::TextFault;
-use ob_evidence::small_keywords::{first_of_statement, next_behind};
+use ob_evidence::small_keywords::first_of_statement;
 use ob_evidence::text_site::{Site, is_kind, look_around};
 use ob_explain_names::expected::expected_kinds;
 use ob_explain_sentences::place::halves;
-use ob_explain_tokens::open::{is_unit, open_construct};
-use ob_mendings::mending::{Mending, mended};
+use ob_mendings::comments::{comment_mending, line_mending, word_mending, words_mending};
+use ob_mendings::fix::{SEMICOLON_THERE, fixed};
+use ob_mendings::mending::{Mending, Told, mended};
 use ob_mendings::origin::{Move, origin};
+use ob_mendings::part::part_mending;
+use ob_mendings::rewritten::{count_mending, for_mending, paren_mending};
+use ob_mendings::sections::order_mending;
+use ob_mendings::signs::{assign_mending, byte_mending, number_mending, sign_mending};
+use ob_mendings::tokens::{ends_line, length_of};
 use ob_mendings::verdict::verdict;
 use ob_parser::parser::ParseFault;
 use ob_scan::{Kind, ScanFault};
@@ -45,30 +48,61 @@ enum Sort {
     MisspeltBefore,
     /// The word before a name that is declared.
     Prefix,
-    /// A type before its name.
+    /// A type before its name, and POINTER TO before one.
     Swapped,
+    Pointer,
+    /// An index between parentheses.
+    Index,
     /// By the tokens around the place.
     Mark,
     /// A keyword in small letters before a `:`; one that stands alone, before the place or there.
     Colon,
     AloneBefore,
     AloneThere,
+    /// An IMPORT; the `.` at the end; an END without its name.
+    Import,
+    Dot,
+    Nameless,
+    /// A line that begins with `#`, words and a word behind a `#`, a comment that is open at the end, the `*` of an export.
+    Line,
+    Words,
+    Word,
+    Comment,
+    Export,
     /// An END or a `;` that is missing.
     End,
     Semicolon,
+    /// A second VAR where a line ends without a `;`.
+    SecondVar,
     /// A type of another language, a near name, one that is declared twice, and one behind an END.
     Type,
     Near,
     Twice,
     EndName,
+    /// A section that stands behind what belongs behind it.
+    Order,
+    /// A variable that is counted up, a FOR, and comparisons without parentheses.
+    Count,
+    For,
+    Paren,
     /// The statement or the condition; a value, a length or a type; the type of a result.
     Part,
     Value,
     Result,
+    /// A VAR before a type, and a length that is written as two indices.
+    Var,
+    Range,
+    /// A 0 or a 1 for FALSE or TRUE, and an END that is missing before another one.
+    Truth,
+    Inner,
 }
 
 /// The sorts that are tried where a token can't stand.
 const OF_TOKENS: &[Sort] = &[
+    Sort::Line,
+    Sort::Import,
+    Sort::Dot,
+    Sort::Nameless,
     Sort::Sign,
     Sort::Assign,
     Sort::WordThere,
@@ -78,21 +112,33 @@ const OF_TOKENS: &[Sort] = &[
     Sort::MisspeltBefore,
     Sort::Prefix,
     Sort::Swapped,
+    Sort::Pointer,
+    Sort::Index,
+    Sort::Count,
+    Sort::For,
+    Sort::Paren,
     Sort::Mark,
+    Sort::Order,
     Sort::Colon,
     Sort::AloneBefore,
     Sort::End,
+    Sort::Words,
     Sort::Semicolon,
+    Sort::SecondVar,
     Sort::Part,
     Sort::Result,
+    Sort::Var,
+    Sort::Range,
     Sort::Value,
 ];
 
 /// Those where none of a name is visible.
 const OF_NAMES: &[Sort] = &[
     Sort::AloneThere,
+    Sort::Word,
     Sort::Type,
     Sort::Near,
+    Sort::Count,
     Sort::Part,
     Sort::Value,
 ];
@@ -123,12 +169,14 @@ fn sorts_of(fault: TextFault) -> &'static [Sort] {
     match fault {
         TextFault::Scan(ScanFault::StrayByte(_)) => &[Sort::Byte],
         TextFault::Scan(ScanFault::NumberTooLarge(_)) => &[Sort::Number],
+        TextFault::Scan(ScanFault::OpenComment(_)) => &[Sort::Comment],
         TextFault::Parse(ParseFault::Unexpected(_)) => OF_TOKENS,
-        TextFault::Parse(ParseFault::NameDiffers(_)) => &[Sort::EndName],
+        TextFault::Parse(ParseFault::NameDiffers(_)) => &[Sort::EndName, Sort::Inner],
         TextFault::Check(CheckFault::Broken(broken)) => match broken.rule {
             Rule::UnknownName => OF_NAMES,
             Rule::DeclaredTwice => &[Sort::Twice],
-            _ => &[Sort::Part, Sort::Value],
+            Rule::BadExport => &[Sort::Export],
+            _ => &[Sort::Truth, Sort::Paren, Sort::Part, Sort::Value],
         },
         _ => &[],
     }
@@ -156,43 +204,34 @@ fn mending_of(
         Sort::Colon => colon_mending(alloc, site),
         Sort::AloneBefore => alone_before(alloc, site),
         Sort::AloneThere => alone_there(alloc, site),
+        Sort::Line => line_mending(alloc, site),
+        Sort::Comment => comment_mending(alloc, site.text, site.place),
+        Sort::Export => export_mending(alloc, site),
+        Sort::Words => words_mending(alloc, site),
+        Sort::Word => word_mending(alloc, site),
+        Sort::Order => order_mending(alloc, site),
+        Sort::Count => count_mending(alloc, site),
+        Sort::For => for_mending(alloc, site),
+        Sort::Paren => paren_mending(alloc, site),
+        Sort::Import => import_mending(alloc, site),
+        Sort::Dot => missing_dot(alloc, site),
+        Sort::Nameless => nameless_end(alloc, site),
         Sort::End => missing_end(alloc, site),
         Sort::Semicolon => missing_semicolon(alloc, site),
+        Sort::SecondVar => second_var(alloc, site),
         Sort::Type => type_mending(alloc, site),
         Sort::Near => near_mending(alloc, site),
         Sort::Twice => twice_mending(alloc, site),
         Sort::EndName => end_mending(alloc, site),
         Sort::Part => part_mending(alloc, site),
         Sort::Value => value_mending(alloc, site),
+        Sort::Index => index_mending(alloc, site),
+        Sort::Pointer => pointer_mending(alloc, site),
+        Sort::Var => var_mending(alloc, site),
+        Sort::Truth => truth_mending(alloc, site),
+        Sort::Inner => inner_end(alloc, site),
+        Sort::Range => range_mending(alloc, site),
         Sort::Result => result_mending(alloc, site),
-    }
-}
-
-/// The mending that puts an END before the place, where the name of the module or the procedure stands that is open there: behind an END, which
-/// then closed something in it, or behind a statement.
-fn missing_end(alloc: Global, site: &Site<'_, '_>) -> Result<Option<Mending>, AllocError> {
-    match open_construct(site.before) {
-        Some(unit)
-            if is_unit(unit.kind)
-                && !site.word().is_empty()
-                && site.word_of(next_behind(site.tokens, unit.start)) == site.word() => {
-            if is_kind(site.last(), Kind::End) {
-                fixed(alloc, site.place, 0, END_BEFORE)
-            } else if next_ended(site) == site.word() {
-                Ok(None)
-            } else {
-                fixed(alloc, site.place, 0, END_THERE)
-            }
-        }
-        _ => Ok(None),
-    }
-}
-
-/// The name behind the next END behind the place.
-fn next_ended<'t>(site: &Site<'t, '_>) -> &'t [u8] {
-    match first_of(site.behind, &[Kind::End]) {
-        Some(end) => site.word_of(next_behind(site.tokens, end.start)),
-        None => b"",
     }
 }
 
@@ -201,7 +240,17 @@ fn missing_semicolon(alloc: Global, site: &Site<'_, '_>) -> Result<Option<Mendin
     let (before, _) = halves(site.text, site.place);
     let could = expected_kinds(alloc, site.text, site.place)?;
     if ends_line(before) && could.contains(&Kind::Semicolon) {
-        fixed(alloc, site.place, 0, SEMICOLON)
+        semicolon_behind(alloc, site)
+    } else {
+        Ok(None)
+    }
+}
+
+/// The mending that puts a `;` in place of a second VAR, where a line ends.
+fn second_var(alloc: Global, site: &Site<'_, '_>) -> Result<Option<Mending>, AllocError> {
+    let (before, _) = halves(site.text, site.place);
+    if is_kind(site.here(), Kind::Var) && ends_line(before) {
+        fixed(alloc, site.place, length_of(site.here()), SEMICOLON_THERE)
     } else {
         Ok(None)
     }
@@ -216,8 +265,16 @@ fn helps(
 ) -> Result<bool, AllocError> {
     let whole = mended(alloc, text, mending)?;
     match verdict(alloc, &whole)? {
-        Some(next) => Ok(is_further(mending.moves(), fault, next)),
+        Some(next) => Ok(is_further(mending.moves(), fault, next) && !is_moved(mending, next)),
         None => Ok(true),
+    }
+}
+
+/// Whether a fault stands in what a mending moved, so that its place in the own text isn't known.
+fn is_moved(mending: &Mending, fault: TextFault) -> bool {
+    match (mending.told, place_of(fault)) {
+        (Told::Line(_, _), Some(place)) => origin(mending.moves(), place) == mending.place,
+        _ => false,
     }
 }
 

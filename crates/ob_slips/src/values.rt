@@ -1,13 +1,16 @@
 //! Values of constants, lengths of arrays and types of variables that are none.
 
-use crate::fix::{Fix, LENGTH, RESULT, TYPE, VALUE, left_out};
-use crate::part::is_in_body;
-use crate::tokens::{first_behind, first_of};
+use itoa::Buffer;
 use ob_evidence::small_keywords::next_behind;
-use ob_evidence::text_site::{Site, is_kind};
+use ob_evidence::text_site::{Site, is_kind, kind_or_name};
 use ob_explain_sentences::first_word::is_same;
 use ob_explain_sentences::place::halves;
+use ob_mendings::fix::{
+    BEGIN_COLON, FALSE, Fix, INITIAL, LENGTH, RESULT, TRUE, TYPE, VALUE, fixed, left_out, worded,
+};
 use ob_mendings::mending::Mending;
+use ob_mendings::part::is_in_body;
+use ob_mendings::tokens::{first_behind, first_of, length_of};
 use ob_scan::{Kind, Token};
 use std::alloc::{AllocError, Global};
 
@@ -74,22 +77,125 @@ fn is_name_there(site: &Site<'_, '_>) -> bool {
     is_kind(site.here(), Kind::Ident)
 }
 
-/// The mending that leaves out the type of a result, which stands behind the parameters of a heading.
+/// The mending that leaves out the type of a result, which stands behind the parameters of a heading, or the value of a variable, which stands
+/// behind its type.
 pub(crate) fn result_mending(
     alloc: Global,
     site: &Site<'_, '_>,
 ) -> Result<Option<Mending>, AllocError> {
-    match first_of(site.behind, &[Kind::Semicolon]) {
-        Some(end)
-            if is_kind(site.here(), Kind::Colon)
-                && is_kind(site.last(), Kind::RightParen)
-                && !is_in_body(site.before) => {
+    match (first_of(site.behind, &[Kind::Semicolon]), too_much(site)) {
+        (Some(end), Some(fix)) if !is_in_body(site.before) => {
             let (_, from) = halves(site.text, site.place);
             let length = end.start.saturating_sub(site.place);
-            left_out(alloc, site.place, halves(from, length).0, RESULT)
+            let (whole, _) = halves(from, length);
+            if whole.contains(&b'\n') {
+                begun(alloc, site)
+            } else {
+                left_out(alloc, site.place, whole, fix)
+            }
         }
         _ => Ok(None),
     }
+}
+
+/// The mending of a `:` behind a heading, where a body begins without a BEGIN.
+fn begun(alloc: Global, site: &Site<'_, '_>) -> Result<Option<Mending>, AllocError> {
+    match kind_or_name(site.here()) {
+        Kind::Colon => fixed(alloc, site.place, 1, BEGIN_COLON),
+        _ => Ok(None),
+    }
+}
+
+/// What is told of a type or a value that is too much.
+fn too_much(site: &Site<'_, '_>) -> Option<Fix> {
+    match (kind_or_name(site.here()), kind_or_name(site.last())) {
+        (Kind::Colon, Kind::RightParen) => Some(RESULT),
+        (Kind::Equal | Kind::Assign, Kind::Ident) if is_kind(site.second(), Kind::Colon) => {
+            Some(INITIAL)
+        }
+        _ => None,
+    }
+}
+
+/// The mending of `x: VAR INTEGER` in a heading: VAR stands before the name.
+pub(crate) fn var_mending(
+    alloc: Global,
+    site: &Site<'_, '_>,
+) -> Result<Option<Mending>, AllocError> {
+    match (site.here(), site.second()) {
+        (Some(var), Some(name))
+            if var.kind == Kind::Var
+                && name.kind == Kind::Ident
+                && is_kind(site.last(), Kind::Colon) => {
+            let mut put = Vec::from_slice(alloc, b"VAR ")?;
+            put.extend_from_slice(site.word_of(Some(name)))?;
+            put.push(b':')?;
+            let taken = var.end.saturating_sub(name.start);
+            worded(alloc, name.start, taken, &put, " in its place")
+        }
+        _ => Ok(None),
+    }
+}
+
+/// The mending of a 0 or a 1 that is meant to be FALSE or TRUE.
+pub(crate) fn truth_mending(
+    alloc: Global,
+    site: &Site<'_, '_>,
+) -> Result<Option<Mending>, AllocError> {
+    match site.here() {
+        Some(number) if number.kind == Kind::Number => match number_at(site, number) {
+            0 => fixed(alloc, site.place, length_of(Some(number)), FALSE),
+            1 => fixed(alloc, site.place, length_of(Some(number)), TRUE),
+            _ => Ok(None),
+        },
+        _ => Ok(None),
+    }
+}
+
+/// The mending of a length that is written as the first and the last index, as `[0..9]`: their number.
+pub(crate) fn range_mending(
+    alloc: Global,
+    site: &Site<'_, '_>,
+) -> Result<Option<Mending>, AllocError> {
+    let Some(gap) = gap_at(site) else {
+        return Ok(None);
+    };
+    let first = first_behind(site.tokens, gap.leader.start, &[Kind::Number]);
+    let begin = next_behind(site.tokens, gap.leader.start);
+    let (Some(begin), Some(first)) = (begin, first) else {
+        return Ok(None);
+    };
+    let Some(last) = first_behind(site.tokens, first.start, &[Kind::Number]) else {
+        return Ok(None);
+    };
+    let (_, dots) = halves(site.text, first.end);
+    if gap.leader.kind != Kind::Array || gap.end.start < last.end || !dots.starts_with(b"..") {
+        return Ok(None);
+    }
+    let mut buffer = Buffer::new();
+    let most = number_at(site, last).saturating_add(1);
+    let length = buffer.format(most.saturating_sub(number_at(site, first)));
+    let taken = gap.end.start.saturating_sub(begin.start);
+    worded(
+        alloc,
+        begin.start,
+        taken,
+        length.as_bytes(),
+        " in its place",
+    )
+}
+
+/// The number that a token is.
+fn number_at(site: &Site<'_, '_>, token: Token) -> usize {
+    let (_, from) = halves(site.text, token.start);
+    let (digits, _) = halves(from, token.end.saturating_sub(token.start));
+    let mut number: usize = 0;
+    for digit in digits {
+        number = number
+            .saturating_mul(10)
+            .saturating_add(usize::from(digit.saturating_sub(b'0')));
+    }
+    number
 }
 
 /// What stands around the place between tokens of a declaration.

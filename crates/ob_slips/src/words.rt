@@ -1,23 +1,26 @@
 //! Words of other languages that are slips, keywords in small letters or misspelt, and words that stand alone as a statement, where they are
 //! read as a call.
 
-use crate::fix::{
-    AND_WORD, BOOLEAN, ELSIF_WORD, END_WORD, Fix, INTEGER, NOT_WORD, PROCEDURE_WORD, UNEQUAL_WORD,
-    WORD_BEFORE, changed, fixed, worded,
-};
-use crate::marks::length_of;
-use crate::part::{ENDS, is_in_body};
 use ob_diagnosis::keywords::{keyword_before, keyword_there};
 use ob_evidence::lone_names::lone_end;
 use ob_evidence::nearest_names::leads_to_statement;
 use ob_evidence::small_keywords::{capitals, next_behind, small_keyword};
-use ob_evidence::text_site::{Site, is_kind, kind_or_name};
+use ob_evidence::text_site::{Site, is_kind, kind_or_name, rest_of};
+use ob_explain_names::declarations::first_of;
 use ob_explain_sentences::first_word::is_same_in_any_case;
 use ob_explain_sentences::kinds::sample;
-use ob_explain_tokens::open::open_construct;
+use ob_explain_sentences::place::halves;
+use ob_explain_tokens::open::{is_in_record, open_construct};
+use ob_explain_tokens::parens::is_in_parens;
 use ob_explain_words::declaring::declares;
 use ob_mendings::capitals::small_words;
-use ob_mendings::mending::{Everywhere, Mending, Told};
+use ob_mendings::fix::{
+    AND_WORD, BOOLEAN, ELSIF_WORD, END_WORD, Fix, INTEGER, LOOP_WORD, MODULE_WORD, NOT_WORD,
+    POINTER, PROCEDURE_WORD, UNEQUAL_WORD, WORD_BEFORE, changed, fixed, worded,
+};
+use ob_mendings::mending::{Elsewhere, Mending, Told};
+use ob_mendings::part::{ENDS, is_in_body};
+use ob_mendings::tokens::{first_of as token_of, length_of};
 use ob_scan::{Kind, Token};
 use std::alloc::{AllocError, Global};
 
@@ -38,6 +41,8 @@ macro_rules! words {
 /// The words that are known.
 const WORDS: &[Foreign] = words! {
     b"AND" => AND_WORD;
+    b"PROGRAM" => MODULE_WORD;
+    b"UNIT" => MODULE_WORD;
     b"NOT" => NOT_WORD;
     b"ELSEIF" => ELSIF_WORD;
     b"ELIF" => ELSIF_WORD;
@@ -48,6 +53,7 @@ const WORDS: &[Foreign] = words! {
     b"FI" => END_WORD;
     b"OD" => END_WORD;
     b"WEND" => END_WORD;
+    b"LOOP" => LOOP_WORD;
 };
 
 /// Words before the name of a procedure in other languages.
@@ -73,6 +79,10 @@ const PREFIXES: &[Foreign] = words! {
     b"IN" => WORD_BEFORE;
     b"LET" => WORD_BEFORE;
     b"DIM" => WORD_BEFORE;
+    b"PUBLIC" => WORD_BEFORE;
+    b"PRIVATE" => WORD_BEFORE;
+    b"EXPORT" => WORD_BEFORE;
+    b"STATIC" => WORD_BEFORE;
 };
 
 /// Types of other languages.
@@ -84,6 +94,12 @@ const TYPES: &[Foreign] = words! {
     b"LONG" => INTEGER;
     b"UINT" => INTEGER;
     b"NUMBER" => INTEGER;
+    b"BYTE" => INTEGER;
+    b"CHAR" => INTEGER;
+    b"STRING" => INTEGER;
+    b"REAL" => INTEGER;
+    b"FLOAT" => INTEGER;
+    b"DOUBLE" => INTEGER;
     b"BOOL" => BOOLEAN;
 };
 
@@ -138,13 +154,13 @@ fn capital_mending(
     let small = small_words(alloc, site.text)?;
     if small.len() > 1 && stands_among(&small, name) {
         let all = "with the words of the language in capitals";
-        return Ok(Some(changed(alloc, site.place, Everywhere::Capitals, all)));
+        return Ok(Some(changed(alloc, site.place, Elsewhere::Capitals, all)));
     }
     Ok(Some(Mending {
         place: name.start,
         taken: length_of(Some(name)),
         put: capitals(alloc, site.word_of(Some(name)))?,
-        everywhere: Everywhere::Nothing,
+        elsewhere: Elsewhere::Nothing,
         told,
     }))
 }
@@ -164,7 +180,12 @@ pub(crate) fn misspelt_there(
     alloc: Global,
     site: &Site<'_, '_>,
 ) -> Result<Option<Mending>, AllocError> {
-    keyword_put(alloc, site.here(), keyword_there(alloc, site)?)
+    keyword_put(
+        alloc,
+        site.here(),
+        keyword_there(alloc, site)?,
+        " in its place",
+    )
 }
 
 /// The same of the name before it.
@@ -172,7 +193,8 @@ pub(crate) fn misspelt_before(
     alloc: Global,
     site: &Site<'_, '_>,
 ) -> Result<Option<Mending>, AllocError> {
-    keyword_put(alloc, site.last(), keyword_before(alloc, site)?)
+    let told = " for the word before it";
+    keyword_put(alloc, site.last(), keyword_before(alloc, site)?, told)
 }
 
 /// The mending that puts a keyword in place of a name.
@@ -180,18 +202,13 @@ fn keyword_put(
     alloc: Global,
     name: Option<Token>,
     keyword: Option<Kind>,
+    told: &'static str,
 ) -> Result<Option<Mending>, AllocError> {
     let (Some(name), Some(keyword)) = (name, keyword) else {
         return Ok(None);
     };
     let length = length_of(Some(name));
-    worded(
-        alloc,
-        name.start,
-        length,
-        sample(keyword).as_bytes(),
-        " written there",
-    )
+    worded(alloc, name.start, length, sample(keyword).as_bytes(), told)
 }
 
 /// The mending of the token before a `:`, if it is a keyword in small letters that may stand alone, in a body.
@@ -235,7 +252,7 @@ pub(crate) fn alone_before(
             place: name.start,
             taken: length_of(Some(name)),
             put: Vec::from_slice(alloc, b"END")?,
-            everywhere: Everywhere::Nothing,
+            elsewhere: Elsewhere::Nothing,
             told: Told::Line("with END in line ", ""),
         })),
         None => Ok(None),
@@ -262,7 +279,8 @@ pub(crate) fn prefix_mending(
         return Ok(None);
     };
     let word = site.word_of(Some(name));
-    if here.kind != Kind::Ident || is_in_body(site.before) || !is_new(site, name) {
+    let is_heading = is_kind(site.second(), Kind::Procedure);
+    if here.kind != Kind::Ident || is_in_body(site.before) || !is_heading && !is_new(site, name) {
         return Ok(None);
     }
     if let Some(heading) = first_same(HEADINGS, word)
@@ -285,30 +303,129 @@ pub(crate) fn prefix_mending(
 fn ends_name(token: Option<Token>) -> bool {
     matches!(
         kind_or_name(token),
-        Kind::Colon | Kind::Comma | Kind::Semicolon | Kind::RightParen
+        Kind::Colon
+            | Kind::Comma
+            | Kind::Semicolon
+            | Kind::LeftParen
+            | Kind::RightParen
+            | Kind::Times
     )
 }
 
-/// The mending of a type before its name, as in `INTEGER x;`: the name, a `:` and the type.
+/// The mending of a type before its name, as in `INTEGER x;`: the name, a `:` and the type. Where no variables are declared it has VAR before it.
 pub(crate) fn swapped_mending(
     alloc: Global,
     site: &Site<'_, '_>,
 ) -> Result<Option<Mending>, AllocError> {
-    let (Some(last), Some(here)) = (site.last(), site.here()) else {
-        return Ok(None);
-    };
-    let Some(named) = type_meant(site.word_of(Some(last))) else {
-        return Ok(None);
-    };
-    let ends = is_kind(site.next(), Kind::Semicolon) || is_kind(site.next(), Kind::RightParen);
-    if here.kind != Kind::Ident || !ends || is_in_body(site.before) {
+    if is_in_body(site.before) {
         return Ok(None);
     }
-    let mut put = Vec::from_slice(alloc, site.word())?;
+    let is_there = type_meant(site.word()).is_some() && is_kind(site.next(), Kind::Ident);
+    let (named, name, end) = if is_there {
+        (site.here(), site.next(), first_of(rest_of(site.behind)))
+    } else {
+        (site.last(), site.here(), site.next())
+    };
+    match (named, name, kind_or_name(end)) {
+        (Some(named), Some(name), Kind::Semicolon | Kind::RightParen) if name.kind == Kind::Ident =>
+            { declared_so(alloc, site, named, name) }
+        _ => Ok(None),
+    }
+}
+
+/// The mending of the name of a type and a name behind it.
+fn declared_so(
+    alloc: Global,
+    site: &Site<'_, '_>,
+    named: Token,
+    name: Token,
+) -> Result<Option<Mending>, AllocError> {
+    let Some(meant) = type_meant(site.word_of(Some(named))) else {
+        return Ok(None);
+    };
+    let section = token_of(
+        site.before,
+        &[
+            Kind::Var,
+            Kind::Const,
+            Kind::Type,
+            Kind::Module,
+            Kind::Procedure,
+        ],
+    );
+    let is_in_list = is_in_parens(site.before) || is_in_record(site.before);
+    let front: &[u8] = if is_in_list || is_kind(section, Kind::Var) {
+        b""
+    } else {
+        b"VAR "
+    };
+    let mut put = Vec::from_slice(alloc, front)?;
+    put.extend_from_slice(site.word_of(Some(name)))?;
     put.extend_from_slice(b": ")?;
-    put.extend_from_slice(named)?;
-    let taken = here.end.saturating_sub(last.start);
-    worded(alloc, last.start, taken, &put, " in its place")
+    put.extend_from_slice(meant)?;
+    let taken = name.end.saturating_sub(named.start);
+    worded(alloc, named.start, taken, &put, " in its place")
+}
+
+/// The mending of an index between parentheses, as `a(i)` of a variable: brackets.
+pub(crate) fn index_mending(
+    alloc: Global,
+    site: &Site<'_, '_>,
+) -> Result<Option<Mending>, AllocError> {
+    let name = site.word_of(site.last());
+    let is_variable = declares(site.text, site.tokens, name) && !is_procedure(site, name);
+    let end = token_of(
+        site.behind,
+        &[Kind::RightParen, Kind::LeftParen, Kind::Semicolon],
+    );
+    match (site.here(), end) {
+        (Some(open), Some(close))
+            if open.kind == Kind::LeftParen && close.kind == Kind::RightParen && is_variable => {
+            let (_, from) = halves(site.text, open.end);
+            let (inside, _) = halves(from, close.start.saturating_sub(open.end));
+            let mut put = Vec::from_slice(alloc, name)?;
+            put.push(b'[')?;
+            put.extend_from_slice(inside)?;
+            put.push(b']')?;
+            let begin = site.place.saturating_sub(name.len());
+            worded(
+                alloc,
+                begin,
+                close.end.saturating_sub(begin),
+                &put,
+                " in its place",
+            )
+        }
+        _ => Ok(None),
+    }
+}
+
+/// Whether the text has a procedure of this name.
+fn is_procedure(site: &Site<'_, '_>, name: &[u8]) -> bool {
+    let mut is_heading = false;
+    for token in site.tokens {
+        if is_heading && site.word_of(Some(*token)) == name {
+            return true;
+        }
+        is_heading = token.kind == Kind::Procedure;
+    }
+    false
+}
+
+/// The mending of `POINTER TO` before a type.
+pub(crate) fn pointer_mending(
+    alloc: Global,
+    site: &Site<'_, '_>,
+) -> Result<Option<Mending>, AllocError> {
+    match (site.last(), site.here()) {
+        (Some(pointer), Some(to))
+            if is_same_in_any_case(site.word_of(Some(pointer)), b"POINTER")
+                && is_same_in_any_case(site.word(), b"TO") => {
+            let taken = to.end.saturating_sub(pointer.start);
+            fixed(alloc, pointer.start, taken, POINTER)
+        }
+        _ => Ok(None),
+    }
 }
 
 /// The type that a word is, or that is meant by it.
@@ -348,7 +465,7 @@ fn first_same(words: &[Foreign], word: &[u8]) -> Option<Foreign> {
 }
 
 /// Whether a token is a name that the text does not declare.
-fn is_new(site: &Site<'_, '_>, name: Token) -> bool {
+pub(crate) fn is_new(site: &Site<'_, '_>, name: Token) -> bool {
     is_kind(Some(name), Kind::Ident) && !declares(site.text, site.tokens, site.word_of(Some(name)))
 }
 

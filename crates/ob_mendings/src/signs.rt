@@ -1,14 +1,16 @@
-//! Signs that are slips: those of other languages, and those that are written twice or the wrong way round; and comments and texts of other
-//! languages.
+//! Signs that are slips: those of other languages, and those that are written twice or the wrong way round; and texts of other languages.
 
+use crate::comments::{Run, braced, comment_of, length_of_run, line_before, line_of, quoted};
 use crate::fix::{
-    ARROW, ASSIGN, AT_LEAST, AT_MOST, BYTE, COMMENT, DIV, Fix, MOD, NOT, NOT_EQUAL, ONE, ONE_AND,
-    ONE_EQUAL, OR, UNEQUAL, ZERO, changed, fixed, left_out,
+    ARROW, ASSIGN, AT_LEAST, AT_MOST, BEGIN_FOR, BYTE, COMMENT, DIV, DO_FOR, END_FOR, Fix, MOD,
+    NOT, NOT_EQUAL, ONE, ONE_AND, ONE_EQUAL, OR, THEN_FOR, UNEQUAL, ZERO, changed, fixed, left_out,
 };
+use crate::mending::{Elsewhere, Mending, Told};
 use crate::part::{CONDITIONS, part_at};
+use crate::tokens::ends_line;
 use ob_evidence::text_site::Site;
+use ob_explain_sentences::first_word::{is_same_in_any_case, word_at};
 use ob_explain_sentences::place::halves;
-use ob_mendings::mending::{Everywhere, Mending, Told};
 use std::alloc::{AllocError, Global};
 
 /// A sign of which a part stands before the place of a fault, and the rest from there on; and what is meant by it.
@@ -50,28 +52,67 @@ const ASSIGNS: &[Sign] = signs! {
 };
 
 /// The mending of the sign that stands at a place, if it is a slip.
-pub(crate) fn sign_mending(
+pub fn sign_mending(
     alloc: Global,
     text: &[u8],
     place: usize,
 ) -> Result<Option<Mending>, AllocError> {
-    let (_, from) = halves(text, place);
+    let (before, from) = halves(text, place);
     match from {
+        [b'{', ..] => match braced(from) {
+            Some(comment) => left_out(alloc, place, comment, COMMENT),
+            None => fixed(alloc, place, 1, opened_by(line_before(text, place))),
+        },
+        [b'}', ..] => fixed(alloc, place, 1, closed_before(from)),
         [b'_', ..] => Ok(Some(changed(
             alloc,
             place,
-            Everywhere::Letters,
+            Elsewhere::Letters,
             "with a letter for each _",
         ))),
         [b'/', b'/', ..] => left_out(alloc, place, line_of(from), COMMENT),
         [b'/', b'*', ..] => left_out(alloc, place, comment_of(from), COMMENT),
+        [b'|', ..] if ends_line(before) => fixed(alloc, place, 1, BYTE),
         [b'"' | b'\'', ..] => fixed(alloc, place, quoted(from), ZERO),
         _ => whole_mending(alloc, place, first_there(SIGNS, text, place)),
     }
 }
 
+/// What is put for a `{` behind what stands before it in its line.
+fn opened_by(line: &[u8]) -> Fix {
+    let word = word_at(after_brace(line));
+    if is_same_in_any_case(word, b"PROCEDURE") {
+        BEGIN_FOR
+    } else if is_same_in_any_case(word, b"IF") || is_same_in_any_case(word, b"ELSIF") {
+        THEN_FOR
+    } else if is_same_in_any_case(word, b"WHILE") || is_same_in_any_case(word, b"FOR") {
+        DO_FOR
+    } else {
+        BYTE
+    }
+}
+
+/// What is put for a `}` with which these bytes begin: nothing before an ELSE.
+fn closed_before(from: &[u8]) -> Fix {
+    let word = word_at(after_brace(from));
+    if is_same_in_any_case(word, b"ELSE") || is_same_in_any_case(word, b"ELSIF") {
+        BYTE
+    } else {
+        END_FOR
+    }
+}
+
+/// Bytes without blanks and a `}` before them.
+fn after_brace(bytes: &[u8]) -> &[u8] {
+    let rest = bytes.trim_ascii_start();
+    match rest {
+        [b'}', behind @ ..] => behind.trim_ascii_start(),
+        _ => rest,
+    }
+}
+
 /// The mending of a byte that begins no token: by the sign that it is a part of, or without it.
-pub(crate) fn byte_mending(
+pub fn byte_mending(
     alloc: Global,
     text: &[u8],
     place: usize,
@@ -80,7 +121,7 @@ pub(crate) fn byte_mending(
         return Ok(Some(mending));
     }
     let (before, from) = halves(text, place);
-    let length = from.iter().take_while(|byte| !byte.is_ascii()).count();
+    let length = length_of_run(from, Run::Foreign);
     if length > 0 && ends_name(before) {
         return lettered(alloc, place, length);
     }
@@ -105,27 +146,23 @@ fn lettered(alloc: Global, place: usize, length: usize) -> Result<Option<Mending
         place,
         taken: length,
         put,
-        everywhere: Everywhere::Nothing,
+        elsewhere: Elsewhere::Nothing,
         told: Told::Words("with letters in its place"),
     }))
 }
 
 /// The mending of a number that is too large.
-pub(crate) fn number_mending(
+pub fn number_mending(
     alloc: Global,
     text: &[u8],
     place: usize,
 ) -> Result<Option<Mending>, AllocError> {
     let (_, from) = halves(text, place);
-    let length = from.iter().take_while(|byte| byte.is_ascii_digit()).count();
-    fixed(alloc, place, length, ONE)
+    fixed(alloc, place, length_of_run(from, Run::Digits), ONE)
 }
 
 /// The mending of an `=` at the place that is meant to assign, in a statement.
-pub(crate) fn assign_mending(
-    alloc: Global,
-    site: &Site<'_, '_>,
-) -> Result<Option<Mending>, AllocError> {
+pub fn assign_mending(alloc: Global, site: &Site<'_, '_>) -> Result<Option<Mending>, AllocError> {
     match part_at(site) {
         Some(part) if !CONDITIONS.contains(&part.leader.kind) => {
             let sign = first_there(ASSIGNS, site.text, site.place);
@@ -159,31 +196,4 @@ fn first_there(signs: &[Sign], text: &[u8], place: usize) -> Option<Sign> {
         }
     }
     None
-}
-
-/// The bytes up to the end of the line.
-fn line_of(from: &[u8]) -> &[u8] {
-    let length = from.iter().take_while(|byte| **byte != b'\n').count();
-    halves(from, length).0
-}
-
-/// A comment of C, up to its end, or to that of the text.
-fn comment_of(from: &[u8]) -> &[u8] {
-    for (at, byte) in from.iter().enumerate() {
-        if *byte == b'/' && at > 2 && halves(from, at).0.ends_with(b"*") {
-            return halves(from, at.saturating_add(1)).0;
-        }
-    }
-    from
-}
-
-/// How many bytes a text between quotation marks has, with them; one where none stands behind it in its line.
-fn quoted(from: &[u8]) -> usize {
-    let line = line_of(from);
-    let (first, rest) = line.split_at(line.len().min(1));
-    let inside = rest
-        .iter()
-        .take_while(|byte| !first.contains(*byte))
-        .count();
-    if inside < rest.len() { inside + 2 } else { 1 }
 }

@@ -1,12 +1,12 @@
 //! The part of a body in which a place stands, a statement or a condition, and the mending that leaves it out.
 
 use crate::fix::{CONDITION, Fix, LOOP, STATEMENT, left_out};
+use crate::mending::Mending;
 use crate::tokens::{first_behind, first_of};
 use ob_evidence::small_keywords::next_behind;
 use ob_evidence::text_site::{Site, is_kind};
 use ob_explain_sentences::first_word::is_same_in_any_case;
 use ob_explain_sentences::place::halves;
-use ob_mendings::mending::Mending;
 use ob_scan::{Kind, Token};
 use std::alloc::{AllocError, Global};
 
@@ -46,7 +46,7 @@ const LEADERS: &[Kind] = &[
 ];
 
 /// Before these a statement ends.
-pub(crate) const ENDS: &[Kind] = &[
+pub const ENDS: &[Kind] = &[
     Kind::Semicolon,
     Kind::End,
     Kind::Else,
@@ -71,10 +71,7 @@ const STOPS: &[Kind] = &[
 ];
 
 /// The mending that leaves out the assignment, the call or the condition in which the place stands. Of a FOR a WHILE is made.
-pub(crate) fn part_mending(
-    alloc: Global,
-    site: &Site<'_, '_>,
-) -> Result<Option<Mending>, AllocError> {
+pub fn part_mending(alloc: Global, site: &Site<'_, '_>) -> Result<Option<Mending>, AllocError> {
     let Some(part) = part_at(site) else {
         return Ok(None);
     };
@@ -98,7 +95,7 @@ pub(crate) fn part_at(site: &Site<'_, '_>) -> Option<Part> {
 }
 
 /// Whether the first of these tokens with which a section begins is a BEGIN.
-pub(crate) fn is_in_body(tokens: &[Token]) -> bool {
+pub fn is_in_body(tokens: &[Token]) -> bool {
     is_kind(first_of(tokens, SECTIONS), Kind::Begin)
 }
 
@@ -106,6 +103,20 @@ pub(crate) fn is_in_body(tokens: &[Token]) -> bool {
 const OPENERS: [&[u8]; 9] = [
     b"CASE", b"SWITCH", b"LOOP", b"WITH", b"UNLESS", b"FOREACH", b"TRY", b"MATCH", b"SELECT",
 ];
+
+/// Whether a token is a name, a number or a sign with which people begin a statement.
+fn begins_statement(kind: Kind) -> bool {
+    matches!(
+        kind,
+        Kind::Ident
+            | Kind::Number
+            | Kind::Assign
+            | Kind::Equal
+            | Kind::Plus
+            | Kind::Minus
+            | Kind::LeftParen
+    )
+}
 
 /// Whether a word is one of these.
 fn opens(word: &[u8]) -> bool {
@@ -126,7 +137,10 @@ fn without(site: &Site<'_, '_>, part: Part) -> Option<Fix> {
         Kind::While if part.end.kind == Kind::Do => Some(CONDITION),
         Kind::Until if ends_statement => Some(CONDITION),
         Kind::If | Kind::Elsif | Kind::While | Kind::Until => None,
-        _ if part.first.kind != Kind::Ident || opens(site.word_of(Some(part.first))) => None,
+        _ if !begins_statement(part.first.kind) || opens(site.word_of(Some(part.first))) => None,
+        _ if ends_statement && is_same_in_any_case(site.word_of(Some(part.first)), b"FOR") => {
+            None
+        }
         _ if ends_statement => Some(STATEMENT),
         _
             if part.end.kind == Kind::Do
