@@ -3,13 +3,9 @@
 //! promised; which facts give a hint may be changed without asking.
 #![tactic(auto)]
 
-mod foreign;
-mod further;
-mod habits;
 pub mod keywords;
 mod missing;
 pub mod module_remark;
-mod procedure_names;
 mod rules;
 mod syntax;
 mod told_by_tables;

@@ -1,7 +1,7 @@
 //! Which token may be missing before a place.
 
-use crate::further::is_closed_behind;
-use crate::procedure_names::{is_assigned, is_procedure};
+use ob_clues::further::is_closed_behind;
+use ob_clues::procedure_names::{is_assigned, is_procedure};
 use ob_evidence::small_keywords::next_behind;
 use ob_evidence::text_site::{Site, is_kind};
 use ob_explain_names::expected::is_expected;

@@ -5,10 +5,11 @@ ghost use Rattle.ob_diagnosis.specs.Remarks.{Tells};
 ghost use Rattle.ob_evidence.specs.Sites.{scene_of};
 ghost use Rattle.ob_explain_sentences.specs.Remarks.{remark_of};
 
-use crate::foreign::is_number_type;
-use crate::further::{declares_other, is_elsewhere, is_own_name, is_own_type};
-use crate::procedure_names::{is_field, is_procedure};
 use crate::told_by_tables::{Seen, nothing, of_facts, told};
+use ob_clues::comparisons::note_beside;
+use ob_clues::foreign::is_number_type;
+use ob_clues::further::{declares_other, is_elsewhere, is_own_name, is_own_type};
+use ob_clues::procedure_names::{is_field, is_in_export, is_procedure};
 use ob_evidence::constant_numbers::{
     first_operand, is_known, length_there, second_operand, written,
 };
@@ -117,6 +118,8 @@ pub(crate) fn types_remark(alloc: Global, site: &Site<'_, '_>) -> Result<Remark,
 {
     let mut facts = Vec::new(alloc);
     let types = types_there(&mut facts, alloc, site)?;
+    note_beside(&mut facts, alloc, site, types.found)?;
+    note(&mut facts, is_in_export(site), Fact::InExport)?;
     let called = called_name(site.text, site.known, site.before);
     let evidence = Evidence {
         wanted: types.wanted,

@@ -8,6 +8,7 @@ ghost use Rattle.ob_explain_sentences.specs.Remarks.{remark_of};
 
 use crate::told_by_tables::{Seen, nothing, of_facts, told};
 use crate::unexpected::seen_there;
+use ob_clues::procedure_names::is_renamed;
 use ob_evidence::constructs::{inner_of, open_around, opening_of};
 use ob_evidence::facts::{facts_of, note};
 use ob_evidence::lone_names::lone_end;
@@ -78,6 +79,7 @@ pub(crate) fn name_remark(alloc: Global, site: &Site<'_, '_>) -> Result<Remark, 
     let name = end_name(site);
     let opening = open_around(site);
     let lone = lone_end(site, opening);
+    let wanted = site.word_of(name);
     let facts = facts_of(
         alloc,
         &[
@@ -85,12 +87,13 @@ pub(crate) fn name_remark(alloc: Global, site: &Site<'_, '_>) -> Result<Remark, 
             (is_token(opening), Fact::StillOpen),
             (is_kind(opening, Kind::Repeat), Fact::OpenRepeat),
             (is_token(lone), Fact::Lone),
+            (is_renamed(site, wanted), Fact::Renamed),
         ],
     )?;
     let lone_name = site.word_of(lone);
     let lone_line = line_of(site.text, lone);
     let evidence = Evidence {
-        name: site.word_of(name),
+        name: wanted,
         opening: kind_or_name(opening),
         line: line_of(site.text, opening),
         lone: lone_name,

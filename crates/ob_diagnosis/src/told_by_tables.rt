@@ -7,6 +7,7 @@ ghost use Rattle.ob_evidence.specs.Sites.{scene_of};
 ghost use Rattle.ob_explain_sentences.specs.Remarks.{remark_of};
 ghost use Rattle.ob_explain_sentences.specs.Said.{evidence_of};
 
+use ob_clues::signs::note_sign;
 use ob_evidence::facts::facts_of;
 use ob_evidence::nearest_names::leads_to_statement;
 use ob_evidence::text_site::{Site, kind_of};
@@ -142,7 +143,7 @@ pub(crate) fn plain_remark(
 {
     let (before, from) = halves(site.text, site.place);
     let in_case = is_behind_case(alloc, before)?;
-    let facts = facts_of(
+    let mut facts = facts_of(
         alloc,
         &[
             (begins_other(from), Fact::NotAscii),
@@ -152,6 +153,7 @@ pub(crate) fn plain_remark(
             (in_case, Fact::BehindCase),
         ],
     )?;
+    note_sign(&mut facts, before, from)?;
     told(alloc, site, number, &of_facts(&facts), &nothing())
 }
 
@@ -184,7 +186,7 @@ fn is_behind_case(alloc: Global, text: &[u8]) -> Result<bool, AllocError> {
         if is_case && leads_to_statement(token.kind) {
             return Ok(true);
         }
-        is_case = begin < token.start && name_at(text, token.start) == b"CASE".as_slice();
+        is_case = begin < token.start && name_at(text, token.start).eq_ignore_ascii_case(b"CASE");
     }
     Ok(false)
 }

@@ -5,12 +5,15 @@ ghost use Rattle.ob_evidence.specs.Constructs.{AreShown};
 ghost use Rattle.ob_evidence.specs.Keywords.{AreAsked};
 ghost use Rattle.ob_evidence.specs.Sites.{scene_of};
 
-use crate::foreign::{is_foreign, is_type_name};
-use crate::further::{begins_block, declares_type, has_ended, is_closed_behind};
-use crate::habits::{has_small_before_colon, is_behind_part_of_procedure, is_unfinished};
 use crate::keywords::{is_keyword, keyword_before, keyword_first, keyword_there};
 use crate::missing::missing_there;
-use crate::procedure_names::{
+use ob_clues::comparisons::is_chained;
+use ob_clues::foreign::{is_foreign, is_type_name};
+use ob_clues::further::{begins_block, has_ended, is_closed_behind, is_type};
+use ob_clues::habits::{
+    has_small_before_colon, is_behind_part_of_procedure, is_unassigned, is_unfinished,
+};
+use ob_clues::procedure_names::{
     begins_with_bracket, called, ends_repeat, is_assigned, is_procedure, lists,
 };
 use ob_evidence::constructs::{Shown, shown_there};
@@ -130,6 +133,8 @@ fn note_tokens(
     note(facts, begins_block(site), Fact::Block)?;
     note(facts, is_in_record(site.before), Fact::InRecord)?;
     note(facts, is_unfinished(site), Fact::Unfinished)?;
+    note(facts, is_unassigned(site), Fact::Unassigned)?;
+    note(facts, is_chained(site), Fact::Chained)?;
     note(
         facts,
         is_kind(open_construct(site.before), Kind::Module),
@@ -174,11 +179,6 @@ fn note_words(facts: &mut Vec<Fact>, site: &Site<'_, '_>) -> Result<(), AllocErr
         is_type(site, site.word_of(site.next())),
         Fact::TypeNext,
     )
-}
-
-/// Whether a word is the name of a type, of this text or of a language.
-pub(crate) fn is_type(site: &Site<'_, '_>, word: &[u8]) -> bool {
-    is_type_name(word) || declares_type(site, word)
 }
 
 /// As what a name is to be declared that stands there before a `=`: as a type, or as a constant where the text does not declare it.

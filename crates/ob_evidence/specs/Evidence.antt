@@ -46,8 +46,9 @@ pub record IsUnexpected (s : Scene) (e : Evidence) : Type 0 where
   pub asked : (e.keyword ≡ Kinds.Ident) ⊎ IsAsked s e.keyword
 
 -- P3: the name is that of what the END before it closes; the construct that is still open is the one that this END closes. The lone name
--- stands before the place as a whole statement.
+-- stands before the place as a whole statement. That the heading is meant to have another name is a hint, of which nothing is promised.
 pub record IsOtherName (s : Scene) (facts : List Fact) (e : Evidence) : Type 0 where
+  pub renamed : Bool
   pub opening : Option Token
   pub name : e.name ≡ word_of s.text (end_name s)
   pub is_open : IsOpen (rest_of s.before) opening None
@@ -59,7 +60,7 @@ pub record IsOtherName (s : Scene) (facts : List Fact) (e : Evidence) : Type 0 w
   pub lone_line : e.lone_line ≡ line_of s.text lone
   pub noted : facts ≡ facts_in (
       (is_token (end_name s), Facts.Named) ∷ (is_token opening, Facts.StillOpen) ∷ (is_kind opening Kinds.Repeat, Facts.OpenRepeat)
-      ∷ (is_token lone, Facts.Lone) ∷ [])
+      ∷ (is_token lone, Facts.Lone) ∷ (renamed, Facts.Renamed) ∷ [])
 
 -- C1: the name is the nearest one; of a record the first fields are told. The other facts are hints on the word, of which nothing is
 -- promised.

@@ -284,7 +284,10 @@ fn note_expression(
         Fact::OtherSingle | Fact::OtherWhole | Fact::OtherUnknown
     );
     note(facts, is_other, Fact::Other)?;
-    note(facts, true, fact)
+    note(facts, true, fact)?;
+    let is_whole = matches!(fact, Fact::ArrayAssigned | Fact::RecordAssigned);
+    let is_single = matches!(other_than(found), Fact::OtherSingle);
+    note(facts, is_whole && is_single, Fact::OtherSingle)
 }
 
 /// What is told of an expression of this type where another one is wanted.

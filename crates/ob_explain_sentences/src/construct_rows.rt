@@ -54,6 +54,7 @@ const OTHER_IF: Piece = PieceOf::Text(
 
 /// An END that is missing or one too many, a `]` or a `)`, and pairs of tokens.
 pub const CONSTRUCT_ROWS: &[Row] = rows! {
+    [Is(Fact::Renamed)] => &[PieceOf::Text("this name stands elsewhere too, and that of the heading nowhere else; is the heading meant to have it?")];
     [Is(Fact::UntilBefore)] => REPEAT_END;
     [Is(Fact::UnitEnded)] => &[
         END_CLOSES, PieceOf::Opening, OF_LINE, PieceOf::Line,

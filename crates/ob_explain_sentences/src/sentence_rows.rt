@@ -3,6 +3,7 @@
 
 use crate::table_rows::WhenOf::{Here, Is, Last, Never, Next, On, Word};
 use crate::table_rows::{Fact, Number, Piece, PieceOf, Row};
+use crate::word_rows::{FUNCTION_WORDS, PROCEDURE_WORDS};
 use ob_scan::Kind;
 
 /// A table: in each row conditions, and what is said.
@@ -15,6 +16,8 @@ macro_rules! rows {
 const NO_NUMBERS: Piece = PieceOf::Text("this operator takes INTEGERs");
 
 const BEHIND: Piece = PieceOf::Text(" behind the name `");
+
+const BEHIND_WORD: Piece = PieceOf::Text(" behind `");
 
 const QUOTE: Piece = PieceOf::Text("`");
 
@@ -105,6 +108,8 @@ pub const TYPE_ROWS: &[Row] = rows! {
     [Here(&[Kind::Not]), Is(Fact::WrongSigned)] => PieceOf::Text("~ takes a BOOLEAN, and what stands behind it is an INTEGER");
     [Is(Fact::WrongSigned)] => PieceOf::Text("a sign takes an INTEGER, and what stands behind it is a BOOLEAN");
     [Is(Fact::UnknownSigned)] => ANOTHER_TYPE;
+    [Is(Fact::WholeCompared), Is(Fact::ArrayBeside)] => PieceOf::Text("this is a whole array, and it is compared with a single value");
+    [Is(Fact::WholeCompared), Is(Fact::RecordBeside)] => PieceOf::Text("this is a whole record, and it is compared with a single value");
     [Is(Fact::WholeCompared)] => PieceOf::Text("arrays and records are not compared; compare element by element, or field by field");
     [Is(Fact::ArrayAssigned)] => PieceOf::Text("the variable before it is a whole array; assign element by element");
     [Is(Fact::RecordAssigned)] => PieceOf::Text("the variable before it is a whole record; assign field by field");
@@ -133,8 +138,14 @@ pub const TYPE_ROWS: &[Row] = rows! {
 
 /// Ends of sentences.
 pub const END_ROWS: &[Row] = rows! {
+    [On(Number::P1), Is(Fact::Expected), Last(&[Kind::Ident]), Is(Fact::Foreign)] => BEHIND_WORD, PieceOf::Name, QUOTE;
+    [On(Number::P1), Is(Fact::Expected), Last(&[Kind::Ident]), Here(&[Kind::Ident]), Never(&[Kind::And]), Is(Fact::TypeBefore)] =>
+        BEHIND_WORD, PieceOf::Name, QUOTE;
+    [On(Number::P1), Is(Fact::Expected), Last(&[Kind::Ident]), Here(&[Kind::Ident]), Never(&[Kind::And]), Word(FUNCTION_WORDS)] =>
+        BEHIND_WORD, PieceOf::Name, QUOTE;
+    [On(Number::P1), Is(Fact::Expected), Last(&[Kind::Ident]), Here(&[Kind::Ident]), Never(&[Kind::And]), Word(PROCEDURE_WORDS)] =>
+        BEHIND_WORD, PieceOf::Name, QUOTE;
     [On(Number::P1), Is(Fact::Expected), Last(&[Kind::Ident]), Here(&[Kind::Ident]), Never(&[Kind::And])] => BEHIND, PieceOf::Name, QUOTE;
-    [On(Number::P1), Is(Fact::Expected), Last(&[Kind::Ident]), Is(Fact::Foreign)] => BEHIND, PieceOf::Name, QUOTE;
     [On(Number::P1), Is(Fact::Expected), Last(&[Kind::Ident]), Is(Fact::KeywordBefore)] => BEHIND, PieceOf::Name, QUOTE;
     [On(Number::P1), Is(Fact::Expected), Last(&[Kind::RightParen]), Never(&[Kind::And]), Is(Fact::UndeclaredCall), Word(&["RETURN"])] =>
         PieceOf::Text(" behind RETURN (..), which is read as a call");

@@ -37,6 +37,14 @@ pub enum Fact {
     TypeAwaited,
     /// A word CASE stands before it.
     BehindCase,
+    /// A comment of another language begins there, or a quotient between two operands.
+    CommentThere,
+    QuotientThere,
+    /// A brace stands there for this keyword, or for none.
+    ThenMeant,
+    DoMeant,
+    BeginMeant,
+    NothingMeant,
     /// Some token could stand there.
     Expected,
     /// A keyword stands there.
@@ -66,6 +74,10 @@ pub enum Fact {
     PartOfProcedure,
     /// The line before ends with an operator, and the token there begins its own line, or is a `:=` behind what may be assigned.
     Unfinished,
+    /// The line before ends with a `:=`, and the token there begins its own line, or stands behind what begins a statement of its own.
+    Unassigned,
+    /// Before it stands one comparison, without & and OR behind it.
+    Chained,
     /// The heading of a procedure could end there.
     Heading,
     /// It stands in no procedure and no statement.
@@ -88,6 +100,8 @@ pub enum Fact {
     UntilBefore,
     /// The name there is that of a procedure or module around what ends.
     OuterName,
+    /// The name there stands elsewhere too, in no heading, and that of the heading of what ends nowhere else.
+    Renamed,
     /// An IF or WHILE stands there without a condition.
     Repeated,
     /// A construct is still open, and it is a REPEAT.
@@ -152,8 +166,10 @@ pub enum Fact {
     /// Behind the sign stands what it does not take, or what is not known.
     WrongSigned,
     UnknownSigned,
-    /// Whole arrays or records are compared.
+    /// Whole arrays or records are compared; a whole array with a single value, or a whole record.
     WholeCompared,
+    ArrayBeside,
+    RecordBeside,
     /// An expression is of another type than is wanted: a single value, a whole array or record, or what is not known.
     Other,
     OtherSingle,
@@ -171,9 +187,10 @@ pub enum Fact {
     /// The first operand, or the fields, and the second operand are known.
     First,
     Second,
-    /// It stands in parentheses; in a procedure.
+    /// It stands in parentheses; in a procedure; in the heading of an export.
     InParens,
     InProcedure,
+    InExport,
     /// Words of variables are counted; how many words there are is known.
     Counted,
     Words,

@@ -3,8 +3,8 @@
 use crate::table_rows::WhenOf::{Could, Here, Is, Last, Never, Next, Not, On, Second, Sign, Word};
 use crate::table_rows::{Fact, Number, Piece, PieceOf, Row};
 use crate::word_rows::{
-    IN_CAPITALS, NO_CASE, NO_FOR, NO_INPUT_OUTPUT, NO_POINTER, NO_REAL, NO_SHIFT, PROCEDURE_FORM,
-    PROCEDURE_WORDS,
+    FUNCTION_WORDS, IN_CAPITALS, NO_CASE, NO_FOR, NO_FUNCTION_WORD, NO_INPUT_OUTPUT, NO_OTHER_WORD,
+    NO_POINTER, NO_REAL, NO_SHIFT, PROCEDURE_FORM, PROCEDURE_WORDS,
 };
 use ob_scan::Kind;
 
@@ -76,8 +76,26 @@ const COMPARISON: &[Piece] = &[PieceOf::Text(
     "a comparison beside another one, or beside & or OR, stands in parentheses: (a > 0) & (b < 5)",
 )];
 
+const CHAINED: &[Piece] = &[PieceOf::Text(
+    "there is one comparison in an expression: 0 <= x < n is written (0 <= x) & (x < n)",
+)];
+
+/// Signs that compare.
+const RELATIONS: &[Kind] = &[
+    Kind::Equal,
+    Kind::NotEqual,
+    Kind::Less,
+    Kind::LessOrEqual,
+    Kind::Greater,
+    Kind::GreaterOrEqual,
+];
+
 const CONDITION: &[Piece] = &[PieceOf::Text(
     "a BOOLEAN is a condition by itself, as in IF b THEN and in IF ~b THEN",
+)];
+
+const NO_TRUTH: &[Piece] = &[PieceOf::Text(
+    "write 1 for TRUE and 0 for FALSE, or declare the variable BOOLEAN",
 )];
 
 const LEADER: &[Piece] = &[PieceOf::Text(
@@ -120,6 +138,10 @@ const NO_OPERAND: &[Piece] = &[PieceOf::Text(
     "the line before ends with an operator; is an operand missing behind it?",
 )];
 
+const NO_ASSIGNED: &[Piece] = &[PieceOf::Text(
+    "a line ends behind the := before it; is a value missing there?",
+)];
+
 const SAID_OF_CASES: &[Piece] = &[PieceOf::Text(NO_CASE)];
 
 const NO_SEMICOLON: &[Piece] = &[PieceOf::Text(
@@ -129,6 +151,8 @@ const NO_SEMICOLON: &[Piece] = &[PieceOf::Text(
 const ARRAY_TYPE: &[Piece] = &[PieceOf::Text(
     "an array type is written ARRAY 4 OF INTEGER; its indices are 0 to 3",
 )];
+
+const NO_OF: &[Piece] = &[PieceOf::Text("is OF missing before it?")];
 
 const ARRAY_LENGTH: &[Piece] = &[PieceOf::Text(
     "the length of an array is one number; ARRAY 10 OF INTEGER has the elements 0 to 9",
@@ -153,6 +177,10 @@ const NO_LIST: &[Piece] = &[PieceOf::Text(
 )];
 
 const PROCEDURE: &[Piece] = &[PieceOf::Text(PROCEDURE_FORM)];
+
+const FUNCTION: &[Piece] = &[PieceOf::Text(NO_FUNCTION_WORD)];
+
+const OTHER_PROCEDURE: &[Piece] = &[PieceOf::Text(NO_OTHER_WORD)];
 
 const NO_PROCEDURE: &[Piece] = &[PieceOf::Text(
     "is PROCEDURE missing before the name? An export is written PROCEDURE Get*(VAR v: INTEGER);",
@@ -256,6 +284,7 @@ pub const SIGN_ROWS: &[Row] = rows! {
     [Last(&[Kind::RightBracket]), Could(&[Kind::Assign]), Is(Fact::CallBracket)] => ACTUALS;
     [Here(&[Kind::Semicolon]), Could(&[Kind::RightParen]), Word(&["FOR", "FOREACH"])] => &[PieceOf::Text(NO_FOR)];
     [Here(&[Kind::Assign, Kind::LeftParen]), Last(&[Kind::Ident]), Second(&[Kind::Dot]), Is(Fact::LineEnded)] => ENDED_BY_DOT;
+    [Here(&[Kind::LeftParen]), Is(Fact::Unassigned), Is(Fact::BehindCall)] => NO_ASSIGNED;
     [Here(&[Kind::LeftParen]), Is(Fact::PartOfProcedure), Never(&[Kind::Assign])] => NO_FUNCTION;
     [Here(&[Kind::LeftParen]), Last(&[Kind::Ident]), Second(&[Kind::Dot]), Is(Fact::NoArray), Word(OUTPUT_WORDS)] => INPUT_OUTPUT;
     [Here(&[Kind::LeftParen]), Last(&[Kind::Ident]), Second(&[Kind::Dot]), Is(Fact::NoArray)] => FOREIGN_CALL;
@@ -274,6 +303,8 @@ pub const SIGN_ROWS: &[Row] = rows! {
     [Here(&[Kind::Ident]), Is(Fact::TypeThere), Is(Fact::Heading)] => NO_FUNCTION;
     [Sign("->"), Is(Fact::Heading)] => NO_FUNCTION;
     [Here(&[Kind::Ident]), Word(&["RETURNS"]), Is(Fact::Heading)] => NO_FUNCTION;
+    [Here(&[Kind::Times]), Last(&[Kind::RightParen]), Is(Fact::Heading)] =>
+        &[PieceOf::Text("the * of an export stands behind the name: PROCEDURE Get*(VAR v: INTEGER);")];
     [Here(&[Kind::Colon, Kind::Equal]), Is(Fact::Heading)] =>
         &[PieceOf::Text("the heading of a procedure ends with ;, as PROCEDURE P(k: INTEGER);")];
 };
@@ -283,8 +314,11 @@ pub const SYMBOL_ROWS: &[Row] = rows! {
     [Is(Fact::Unfinished), Here(&[Kind::Assign])] => NO_OPERAND;
     [Is(Fact::Unfinished), Here(&[Kind::If, Kind::Procedure, Kind::Begin]), Could(&[Kind::Number])] => NO_OPERAND;
     [Is(Fact::Unfinished), Here(BEGIN_NO_OPERAND), Could(&[Kind::Number])] => NO_OPERAND;
-    [Here(&[Kind::Assign]), Last(&[Kind::Ident]), Second(&[Kind::Assign]), Is(Fact::LineEnded)] =>
-        &[PieceOf::Text("a line ends behind the := before it; is a value missing there?")];
+    [Is(Fact::Unassigned), Here(&[Kind::Assign, Kind::If, Kind::While, Kind::Repeat])] => NO_ASSIGNED;
+    [Here(&[Kind::Assign]), Last(&[Kind::Ident]), Second(&[Kind::Assign]), Is(Fact::LineEnded)] => NO_ASSIGNED;
+    [Here(&[Kind::Equal]), Last(&[Kind::Assign])] => &[PieceOf::Text("is one = too many?")];
+    [Here(&[Kind::Equal]), Last(&[Kind::Equal]), Not(Fact::Touching)] => &[PieceOf::Text("is one = too many?")];
+    [Here(&[Kind::Assign]), Last(&[Kind::Assign, Kind::Equal])] => &[PieceOf::Text("is one := too many?")];
     [Here(&[Kind::Assign]), Last(&[Kind::RightParen]), Never(&[Kind::And])] => INDEX;
     [Sign("=:"), Could(&[Kind::Assign])] => &[PieceOf::Text("an assignment is written with :=")];
     [Here(&[Kind::Equal]), Could(&[Kind::Assign])] => &[PieceOf::Text("= compares, and := assigns")];
@@ -299,11 +333,8 @@ pub const SYMBOL_ROWS: &[Row] = rows! {
         &[PieceOf::Text("there are no pointers; a field is written behind its record, as r.f")];
     [Sign("<<="), Could(&[Kind::Assign])] => &[PieceOf::Text(NO_SHIFT)];
     [Sign(">>="), Could(&[Kind::Assign])] => &[PieceOf::Text(NO_SHIFT)];
-    [
-        Here(&[Kind::Equal, Kind::NotEqual, Kind::Less, Kind::LessOrEqual, Kind::Greater, Kind::GreaterOrEqual]),
-        Could(&[Kind::And]),
-        Never(&[Kind::Equal])
-    ] => COMPARISON;
+    [Here(RELATIONS), Could(&[Kind::And]), Never(&[Kind::Equal]), Is(Fact::Chained)] => CHAINED;
+    [Here(RELATIONS), Could(&[Kind::And]), Never(&[Kind::Equal])] => COMPARISON;
     [
         Here(&[Kind::Plus]), Last(&[Kind::Plus]), Is(Fact::Touching),
         Next(&[Kind::RightBracket, Kind::RightParen, Kind::Semicolon, Kind::End, Kind::Comma, Kind::Then, Kind::Do, Kind::Assign])
@@ -545,18 +576,23 @@ pub const DECLARATION_ROWS: &[Row] = rows! {
     [Here(&[Kind::Semicolon]), Next(&[Kind::Ident]), Could(&[Kind::Colon])] => NO_LIST;
     [Here(&[Kind::Semicolon, Kind::RightParen, Kind::Array, Kind::Record]), Could(&[Kind::Colon])] => NO_TYPE;
     [Here(&[Kind::Ident]), Could(&[Kind::Of]), Sign("of"), Word(&["OF"])] => &[PieceOf::Text(IN_CAPITALS)];
-    [Here(&[Kind::Ident, Kind::Array, Kind::Record]), Could(&[Kind::Of])] => ARRAY_TYPE;
+    [Here(&[Kind::Ident]), Could(&[Kind::Of]), Is(Fact::TypeThere)] => NO_OF;
+    [Here(&[Kind::Array, Kind::Record]), Could(&[Kind::Of])] => NO_OF;
+    [Here(&[Kind::Ident]), Could(&[Kind::Of])] => ARRAY_TYPE;
 };
 
 /// Tokens where other sections or statements may begin, and actuals without parentheses.
 pub const SECTION_ROWS: &[Row] = rows! {
+    [Word(&["PROCEDURE"]), Here(&[Kind::Ident]), Last(&[Kind::Ident]), Second(&[Kind::Semicolon]), Could(&[Kind::Colon])] => PROCEDURE;
+    [Word(&["FUNCTION"]), Here(&[Kind::Ident]), Last(&[Kind::Ident]), Second(&[Kind::Semicolon]), Could(&[Kind::Colon])] => FUNCTION;
+    [
+        Word(FUNCTION_WORDS), Here(&[Kind::Ident]), Last(&[Kind::Ident]), Second(&[Kind::Semicolon]), Could(&[Kind::Colon]),
+        Next(&[Kind::Times, Kind::LeftParen])
+    ] => FUNCTION;
     [
         Word(PROCEDURE_WORDS), Here(&[Kind::Ident]), Last(&[Kind::Ident]), Second(&[Kind::Semicolon]), Could(&[Kind::Colon]),
         Next(&[Kind::Times, Kind::LeftParen])
-    ] => PROCEDURE;
-    [
-        Word(&["PROCEDURE", "FUNCTION"]), Here(&[Kind::Ident]), Last(&[Kind::Ident]), Second(&[Kind::Semicolon]), Could(&[Kind::Colon])
-    ] => PROCEDURE;
+    ] => OTHER_PROCEDURE;
     [Here(&[Kind::Ident]), Could(&[Kind::Colon]), Is(Fact::TypeBefore)] =>
         &[PieceOf::Text("a name stands before its type: x: INTEGER")];
     [Here(&[Kind::Ident]), Could(&[Kind::Colon]), Is(Fact::TypeThere)] => NO_TYPE;
@@ -603,6 +639,8 @@ pub const RULE_ROWS: &[Row] = rows! {
         ])
     ] => NO_FUNCTION;
     [On(Number::C3), Is(Fact::Procedure), Next(&[Kind::Assign])] => NO_FUNCTION;
+    [On(Number::C3), Is(Fact::Constant), Next(&[Kind::Assign])] =>
+        &[PieceOf::Text("a constant is never changed; what changes is declared in VAR")];
     [On(Number::C3), Sign(".\n")] => ENDED_BY_DOT;
     [On(Number::C3), Sign(".\r")] => ENDED_BY_DOT;
     [On(Number::C3), Here(&[Kind::LeftBracket]), Is(Fact::RecordBefore)] => &[PieceOf::Text("a field is written r.f")];
@@ -618,6 +656,10 @@ pub const RULE_ROWS: &[Row] = rows! {
         &[PieceOf::Text("~ takes the one operand behind it; that a comparison does not hold is written ~(a = b), or a # b")];
     [On(Number::C4), Here(&[Kind::And, Kind::Or]), Is(Fact::Compared)] => COMPARISON;
     [On(Number::C4), Here(&[Kind::And]), Is(Fact::WrongBefore)] => NO_BITS;
+    [On(Number::C4), Is(Fact::ArrayAssigned), Is(Fact::OtherSingle)] =>
+        &[PieceOf::Text("is an element of the array meant before the :=, as a[i]?")];
+    [On(Number::C4), Is(Fact::RecordAssigned), Is(Fact::OtherSingle)] =>
+        &[PieceOf::Text("is a field of the record meant before the :=, as r.f?")];
     [On(Number::C4), Is(Fact::ArrayAssigned)] => &[PieceOf::Text("a loop does that: i := 0; WHILE i < n DO a[i] := b[i]; i := i + 1 END")];
     [On(Number::C4), Is(Fact::RecordAssigned)] => &[PieceOf::Text("that is done by r.f := s.f for each field f")];
     [On(Number::C4), Last(&[Kind::Assign, Kind::If, Kind::Elsif, Kind::While, Kind::Until, Kind::LeftBracket]), Is(Fact::OtherWhole)] =>
@@ -628,7 +670,14 @@ pub const RULE_ROWS: &[Row] = rows! {
         On(Number::C4), Last(&[Kind::Assign]), Here(&[Kind::Number]), Is(Fact::OtherSingle),
         Next(&[Kind::Semicolon, Kind::End, Kind::Elsif, Kind::Else, Kind::Until])
     ] => &[PieceOf::Text("a BOOLEAN is TRUE or FALSE")];
+    [On(Number::C4), Last(&[Kind::Assign]), Sign("TRUE"), Is(Fact::OtherSingle), Next(END_STATEMENT)] => NO_TRUTH;
+    [On(Number::C4), Last(&[Kind::Assign]), Sign("FALSE"), Is(Fact::OtherSingle), Next(END_STATEMENT)] => NO_TRUTH;
     [On(Number::C4), Last(&[Kind::Assign]), Is(Fact::OtherSingle)] => &[PieceOf::Made];
+    [On(Number::C4), Is(Fact::WholeCompared), Is(Fact::ArrayBeside)] => &[PieceOf::Text("is an element of the array meant, as a[i]?")];
+    [On(Number::C4), Is(Fact::WholeCompared), Is(Fact::RecordBeside)] => &[PieceOf::Text("is a field of the record meant, as r.f?")];
+    [On(Number::C4), Last(&[Kind::Colon]), Is(Fact::InExport)] => &[PieceOf::Text(
+        "parameters of an export are INTEGERs and BOOLEANs; hand over the parts one by one, each as a parameter",
+    )];
     [On(Number::C4), Is(Fact::BooleanFirst)] => CONDITION;
     [On(Number::C4), Is(Fact::IntegerFirst)] => CONDITION;
     [On(Number::C7), Last(&[Kind::LeftParen, Kind::Comma])] => &[PieceOf::Text("put the value into a variable first, and hand that over")];

@@ -37,21 +37,21 @@ pub const NO_CASE: &str = "there is no CASE; write IF k = 1 THEN .. ELSIF k = 2 
 pub const NO_POINTER: &str =
     "there are no pointers; write an array of records, and an index in place of a pointer";
 
-/// On procedures of other languages.
+/// On PROCEDURE in small letters.
 pub const PROCEDURE_FORM: &str =
     "a procedure begins with PROCEDURE, in capitals: PROCEDURE P(k: INTEGER); BEGIN .. END P;";
 
-/// The words with which they begin.
-pub const PROCEDURE_WORDS: &[&str] = &[
-    "PROCEDURE",
-    "FUNCTION",
-    "FUNC",
-    "DEF",
-    "FN",
-    "VOID",
-    "PROC",
-    "SUB",
-];
+/// On procedures of other languages, and the words with which they begin.
+pub const NO_OTHER_WORD: &str =
+    "a procedure begins with PROCEDURE: PROCEDURE P(k: INTEGER); BEGIN .. END P;";
+
+pub const PROCEDURE_WORDS: &[&str] = &["VOID", "PROC", "SUB", "METHOD"];
+
+/// The same of functions.
+pub const NO_FUNCTION_WORD: &str =
+    "a procedure begins with PROCEDURE; there are no functions: it gives its results by VAR parameters";
+
+pub const FUNCTION_WORDS: &[&str] = &["FUNCTION", "FUNC", "FUN", "DEF", "FN"];
 
 const RECORD_FORM: &str =
     "a record type is declared behind TYPE: TYPE R = RECORD x, y: INTEGER END;";
@@ -101,6 +101,35 @@ const NOT_EXPORTED: &str = "a procedure without a * behind its name is known in 
 
 const COMMENT: &str = "a comment is written (* .. *)";
 
+const QUOTIENT: &str = "a quotient is written with DIV";
+
+const NO_EMPTY_VALUE: &str =
+    "there are no pointers and no empty values; keep a BOOLEAN or a number that says so";
+
+const ZERO_MEANT: &str = "is the number 0 meant?";
+
+const ONE_MEANT: &str = "is the number 1 meant?";
+
+/// Tokens behind which a value stands.
+const LEAD_TO_VALUES: &[Kind] = &[
+    Kind::Assign,
+    Kind::LeftParen,
+    Kind::LeftBracket,
+    Kind::Comma,
+    Kind::Equal,
+    Kind::NotEqual,
+    Kind::Less,
+    Kind::LessOrEqual,
+    Kind::Greater,
+    Kind::GreaterOrEqual,
+    Kind::Plus,
+    Kind::Minus,
+    Kind::Times,
+    Kind::Div,
+    Kind::Mod,
+    Kind::Array,
+];
+
 const NO_SET: &str =
     "there are no sets; write an array of BOOLEANs, with an element for each number";
 
@@ -108,19 +137,28 @@ const NO_SET: &str =
 pub const NO_CHARACTER: &str =
     "there are no characters; the types of single values are INTEGER and BOOLEAN";
 
+const GIVEN: &str = "a parameter that gives a value stands behind VAR: VAR x: INTEGER";
+
 /// Bytes that begin no token, and numbers that are too large.
 pub const BYTE_ROWS: &[Row] = rows! {
     [Sign("_"), Is(Fact::BehindDigits)] => "a number has digits alone, and no underscores";
     [Sign("_")] => "a name has letters and digits, and no underscores";
     [Sign("\"")] => "there are no strings; a value is a number, TRUE or FALSE";
     [Sign("'")] => "there are no characters; a value is a number, TRUE or FALSE";
+    [Sign("{"), Is(Fact::CommentThere)] => COMMENT;
+    [Sign("{"), Is(Fact::ThenMeant)] => "there are no blocks in braces: THEN stands for {, and END for }";
+    [Sign("{"), Is(Fact::DoMeant)] => "there are no blocks in braces: DO stands for {, and END for }";
+    [Sign("{"), Is(Fact::BeginMeant)] => "there are no blocks in braces: BEGIN stands for {, and END for }";
+    [Sign("{"), Is(Fact::NothingMeant)] => "there are no blocks in braces: nothing stands for {, and END for }";
     [Sign("{")] => "a comment is written (* .. *); there are no blocks in braces: statements stand between THEN, DO or BEGIN and END";
     [Sign("}")] => "there are no blocks in braces; IF, WHILE, a procedure and the module end with END";
     [Sign("!=")] => "not equal is written #";
     [Sign("!")] => "not is written ~";
+    [Sign("//"), Is(Fact::CommentThere)] => COMMENT;
+    [Sign("//"), Is(Fact::QuotientThere)] => QUOTIENT;
     [Sign("//")] => "a comment is written (* .. *), and a quotient with DIV";
     [Sign("/*")] => COMMENT;
-    [Sign("/")] => "a quotient is written with DIV";
+    [Sign("/")] => QUOTIENT;
     [Sign("||")] => "or is written OR";
     [Sign("|"), Is(Fact::BehindCase)] => NO_CASE;
     [Sign("|")] => "of two BOOLEANs or is written OR; there are no operations on the bits of a number, and there is no CASE";
@@ -171,7 +209,7 @@ pub const WORD_ROWS: &[Row] = rows! {
     [Word(&["EXIT"])] => "there is no EXIT; a loop ends by its condition, as in WHILE (i < n) & ~found DO";
     [Word(&["LOOP"])] => "there is no LOOP; write WHILE i < n DO .. END or REPEAT .. UNTIL i = n";
     [Word(&["POINTER"])] => NO_POINTER;
-    [Word(&["NIL", "NULL"])] => "there are no pointers; write an index of an array in place of a pointer, and -1 for none";
+    [Word(&["NIL", "NULL"])] => NO_EMPTY_VALUE;
     [Word(&["AND"])] => "and is written &";
     [Word(&["NOT"])] => "not is written ~";
     [Word(&["ELSEIF", "ELIF"])] => "another case is written ELSIF";
@@ -197,18 +235,30 @@ pub const PLACED_WORD_ROWS: &[Row] = rows! {
     [Word(&["CONST"]), Here(&[Kind::Ident]), Could(&[Kind::Procedure]), Never(&[Kind::Const])] => ORDER_IN_CAPITALS;
     [Word(&["TYPE"]), Here(&[Kind::Ident]), Could(&[Kind::Procedure]), Never(&[Kind::Type])] => ORDER_IN_CAPITALS;
     [Word(&["VAR"]), Here(&[Kind::Ident]), Could(&[Kind::Procedure]), Never(&[Kind::Var])] => ORDER_IN_CAPITALS;
+    [Word(&["DECLARE"]), Could(&[Kind::Var])] => "variables are declared behind VAR: VAR x, y: INTEGER";
+    [Word(&["IS", "AS"]), Is(Fact::Heading)] => "behind the heading of a procedure stands ;, and then its declarations";
     [Word(&["OD", "WEND", "ENDWHILE"]), Could(&[Kind::End])] => "a WHILE ends with END";
     [Word(&["FI"]), Could(&[Kind::End])] => "an IF ends with END";
     [Word(&["USE", "USING", "FROM", "INCLUDE", "REQUIRE", "PACKAGE"]), Could(&[Kind::Const])] => "there is no IMPORT; a module stands alone";
-    [Word(&["OUT", "INOUT", "REF"]), Last(&[Kind::Ident]), Is(Fact::InParens), Could(&[Kind::Colon])] =>
-        "a parameter that gives a value stands behind VAR: VAR x: INTEGER";
-    [Word(&["CONST", "IN", "VAL"]), Last(&[Kind::Ident]), Is(Fact::InParens), Could(&[Kind::Colon])] =>
+    [Word(&["OUT", "INOUT", "REF", "BYREF"]), Last(&[Kind::Ident]), Is(Fact::InParens), Could(&[Kind::Colon])] => GIVEN;
+    [Word(&["OUT", "INOUT", "REF", "BYREF"]), Here(&[Kind::Ident]), Second(&[Kind::Colon]), Is(Fact::InParens)] => GIVEN;
+    [Word(&["CONST", "IN", "VAL", "BYVAL"]), Last(&[Kind::Ident]), Is(Fact::InParens), Could(&[Kind::Colon])] =>
         "a parameter without VAR has its name and its type alone, as x: INTEGER; what is handed over is copied";
-    [Word(PROCEDURE_WORDS), Here(&[Kind::Ident]), Next(&[Kind::Ident]), Could(&[Kind::Procedure])] => PROCEDURE_FORM;
+    [Word(&["PROCEDURE"]), Here(&[Kind::Ident]), Next(&[Kind::Ident]), Could(&[Kind::Procedure])] => PROCEDURE_FORM;
+    [Word(FUNCTION_WORDS), Here(&[Kind::Ident]), Next(&[Kind::Ident]), Could(&[Kind::Procedure])] => NO_FUNCTION_WORD;
+    [Word(PROCEDURE_WORDS), Here(&[Kind::Ident]), Next(&[Kind::Ident]), Could(&[Kind::Procedure])] => NO_OTHER_WORD;
+    [Word(&["PROCEDURE"]), Here(&[Kind::Ident]), Last(&[Kind::Ident]), Second(&[Kind::Semicolon]), Could(&[Kind::Colon])] =>
+        PROCEDURE_FORM;
+    [Word(FUNCTION_WORDS), Here(&[Kind::Ident]), Last(&[Kind::Ident]), Second(&[Kind::Semicolon]), Could(&[Kind::Colon])] =>
+        NO_FUNCTION_WORD;
     [Word(PROCEDURE_WORDS), Here(&[Kind::Ident]), Last(&[Kind::Ident]), Second(&[Kind::Semicolon]), Could(&[Kind::Colon])] =>
+        NO_OTHER_WORD;
+    [Word(&["PROCEDURE"]), Here(&[Kind::Ident]), Last(&[Kind::Ident]), Second(&[Kind::Semicolon]), Could(&[Kind::Equal])] =>
         PROCEDURE_FORM;
+    [Word(FUNCTION_WORDS), Here(&[Kind::Ident]), Last(&[Kind::Ident]), Second(&[Kind::Semicolon]), Could(&[Kind::Equal])] =>
+        NO_FUNCTION_WORD;
     [Word(PROCEDURE_WORDS), Here(&[Kind::Ident]), Last(&[Kind::Ident]), Second(&[Kind::Semicolon]), Could(&[Kind::Equal])] =>
-        PROCEDURE_FORM;
+        NO_OTHER_WORD;
     [Word(&["EXPORT", "PUBLIC"]), Could(&[Kind::Procedure])] => EXPORTED;
     [Word(&["EXPORT", "PUBLIC"]), Here(&[Kind::Procedure]), Last(&[Kind::Ident])] => EXPORTED;
     [Word(&["PRIVATE"]), Here(&[Kind::Procedure]), Last(&[Kind::Ident])] => NOT_EXPORTED;
@@ -223,6 +273,7 @@ pub const STATEMENT_WORD_ROWS: &[Row] = rows! {
     [Word(&["STRUCT", "CLASS", "OBJECT", "UNION"]), Could(&[Kind::Procedure])] => RECORD_FORM;
     [Word(&["STRUCT", "CLASS", "OBJECT", "UNION"]), Last(&[Kind::Ident]), Second(&[Kind::Equal, Kind::Colon, Kind::Of])] => RECORD_FORM;
     [Word(&["SET"]), Here(&[Kind::Of])] => NO_SET;
+    [Word(&["SET"]), Last(&[Kind::Ident]), Could(&[Kind::Assign])] => "no word stands before an assignment: x := x + 1";
     [Word(&["CALL"]), Last(&[Kind::Ident]), Could(&[Kind::Assign])] => "a procedure is called by its name alone, as P(a, 1)";
     [Word(&["TRY", "THROW", "RAISE", "CATCH"]), Last(&[Kind::Ident]), Could(&[Kind::Assign])] => NO_EXCEPTION;
     [Word(&["INC"]), Last(&[Kind::Ident]), Could(&[Kind::Assign])] => NO_INC;
@@ -249,6 +300,10 @@ pub const NAME_ROWS: &[Row] = rows! {
     [Is(Fact::OwnName)] => "this name is the one that is being declared, and it is known only behind its declaration";
     [Is(Fact::Field)] => "a field has this name, and a field is written behind its record, as r.f";
     [Is(Fact::Elsewhere)] => "a procedure before has a variable of this name, which is known only in that procedure";
+    [Word(&["O"]), Last(LEAD_TO_VALUES), Not(Fact::Near)] => ZERO_MEANT;
+    [Word(&["L"]), Sign("l"), Last(LEAD_TO_VALUES), Not(Fact::Near)] => ONE_MEANT;
+    [Word(&["I"]), Sign("I"), Last(LEAD_TO_VALUES), Not(Fact::Near)] => ONE_MEANT;
+    [Word(&["NONE", "UNDEFINED"])] => NO_EMPTY_VALUE;
     [Word(&["INC"])] => NO_INC;
     [Word(&["DEC"])] => NO_DEC;
     [Word(&["BOOL"])] => "the type of TRUE and FALSE is BOOLEAN";

@@ -117,6 +117,7 @@ declaration of the variable and its selectors up to there.
   MODULE M; CONST lim = 8; BEGIN lim := 1 END M.
     C3 at 31
     this is a constant, and a variable is needed here
+    hint: a constant is never changed; what changes is declared in VAR
   MODULE M; VAR x: INTEGER; y: x; END M.
     C3 at 29
     this is a variable, and the name of a type is needed here
@@ -177,7 +178,7 @@ one that is needed here`.
     C4 at 37
     the expression that begins here is a BOOLEAN, and the variable before it is
       an INTEGER
-    hint: a BOOLEAN gives a number by IF b THEN x := 1 ELSE x := 0 END
+    hint: write 1 for TRUE and 0 for FALSE, or declare the variable BOOLEAN
   MODULE M; VAR x: INTEGER; BEGIN x := x + TRUE END M.
     C4 at 39
     this operator takes INTEGERs, and what stands behind it is a BOOLEAN
@@ -205,7 +206,7 @@ one that is needed here`.
     ~ takes a BOOLEAN, and what stands behind it is an INTEGER
     hint: ~ takes the one operand behind it; that a comparison does not hold is
       written ~(a = b), or a # b
-  .. and 17 more, in docs/FAULTS.md
+  .. and 19 more, in docs/FAULTS.md
 
 All commands tell C1 to C10, the first in the text.
 

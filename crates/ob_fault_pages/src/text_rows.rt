@@ -45,12 +45,12 @@ character`.
 
   MODULE M; // text
     S1 at 10
-    hint: a comment is written (* .. *), and a quotient with DIV
+    hint: a comment is written (* .. *)
 
-  MODULE M; VAR x: INTEGER; BEGIN x := 6 / 2 END M.
+  MODULE M; VAR x: INTEGER; BEGIN x := 6 // 2; END M.
     S1 at 39
     hint: a quotient is written with DIV
-  .. and 4 more, in docs/FAULTS.md
+  .. and 6 more, in docs/FAULTS.md
 
 Shown in its text by `obl0 explain a.mod`.
 ",
@@ -138,7 +138,8 @@ behind it.
 So `explain` names the word before too, where the text doesn't declare it and
 it is a word of another language or a misspelt keyword; and where two names
 stand side by side and no operator could stand between them: `` expected ..
-behind the name `FOR` ``.
+behind `FOR` ``; of a name that it doesn't know it says so, as in `` behind the
+name `BEGN` ``.
 
 Where it knows none of the slips below, it asks whether a `(` is missing, which
 a `)` behind it closes; whether END is, where the name there is the one of what
@@ -235,7 +236,7 @@ another than that of the module or procedure is P3.
     expected a statement, `END` or `;`
     hint: the WHILE of line 1 is still open; is its END missing?
     two ENDs are missing, of which that of the WHILE comes first
-  .. and 64 more, in docs/FAULTS.md
+  .. and 65 more, in docs/FAULTS.md
 
 Shown in its text by `obl0 explain a.mod`.
 ",

@@ -3,8 +3,9 @@ use Rattle.ob_diagnosis.proofs.syntax.name_remark.Goals as goal
 
 pub told-requires : goal.told-requires
 told-requires c = record {
+  renamed = c.is_renamed.result;
   opening = c.open_around-opening.result;
-  name = rw (c.word_of.ensures, c.end_name-name.ensures) refl;
+  name = rw (c.word_of-wanted.ensures, c.end_name-name.ensures) refl;
   is_open = c.open_around-opening.ensures;
   keyword = c.kind_or_name.ensures;
   line = c.line_of.ensures;

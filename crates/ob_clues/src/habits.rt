@@ -1,16 +1,15 @@
 //! What shows a habit of another language: a `:` behind a keyword, a part of a procedure, and a line that ends with an operator.
 
 use crate::foreign::begins_part;
-use crate::keywords::stands_before;
-use crate::procedure_names::{is_procedure, lists};
-use crate::unexpected::is_type;
+use crate::further::is_type;
+use crate::procedure_names::{is_procedure, lists, stands_before};
 use ob_evidence::text_site::{Site, is_kind};
 use ob_explain_sentences::place::halves;
 use ob_scan::{Kind, Token};
 
 /// Whether a keyword in small letters stands there, before it, or before the `:` and the name before it, with a `:` behind it and no
 /// type behind that: `begin: x := 1`.
-pub(crate) fn has_small_before_colon(site: &Site<'_, '_>) -> bool {
+pub fn has_small_before_colon(site: &Site<'_, '_>) -> bool {
     let behind = match site.behind {
         [first, second, ..] if first.kind == Kind::Colon => Some(*second),
         _ => None,
@@ -52,7 +51,7 @@ fn is_small(site: &Site<'_, '_>, name: Token) -> bool {
 }
 
 /// Whether the name of a procedure, and of nothing else, a `.` and a name stand before the place.
-pub(crate) fn is_behind_part_of_procedure(site: &Site<'_, '_>) -> bool {
+pub fn is_behind_part_of_procedure(site: &Site<'_, '_>) -> bool {
     match site.before {
         [part, dot, name, ..] => {
             let word = site.word_of(Some(*name));
@@ -67,19 +66,46 @@ pub(crate) fn is_behind_part_of_procedure(site: &Site<'_, '_>) -> bool {
 }
 
 /// Whether the line before ends with an operator, and the token there begins its own line, or is a `:=` behind what may be assigned.
-pub(crate) fn is_unfinished(site: &Site<'_, '_>) -> bool {
-    let (before, _) = halves(site.text, site.place);
-    let begin = line_begin(before);
-    let inside = begun_from(site.before, begin);
-    let (line, rest) = site.before.split_at(inside.min(site.before.len()));
-    match rest {
-        [operator, ..] => {
-            is_operator(operator.kind)
-                && is_line_end(halves(before, operator.end).1)
-                && (line.is_empty() || is_assigned_to(site, line))
-        }
-        [] => false,
+pub fn is_unfinished(site: &Site<'_, '_>) -> bool {
+    let line = line_of_place(site);
+    match line_end(site, line) {
+        Some(last) => is_operator(last.kind) && (line.is_empty() || is_assigned_to(site, line)),
+        None => false,
     }
+}
+
+/// Whether the line before ends with a `:=`, and the token there begins its own line, or stands behind what may be assigned or called.
+pub fn is_unassigned(site: &Site<'_, '_>) -> bool {
+    let line = line_of_place(site);
+    is_kind(line_end(site, line), Kind::Assign)
+        && (line.is_empty() || is_assigned_to(site, line) || is_call_of(site, line))
+}
+
+/// The tokens before the place that begin in its line, the last one first.
+fn line_of_place<'a>(site: &Site<'_, 'a>) -> &'a [Token] {
+    let (before, _) = halves(site.text, site.place);
+    let inside = begun_from(site.before, line_begin(before));
+    let (line, _) = site.before.split_at(inside.min(site.before.len()));
+    line
+}
+
+/// The token with which the line before ends, where these stand in the line of the place.
+fn line_end(site: &Site<'_, '_>, line: &[Token]) -> Option<Token> {
+    let (before, _) = halves(site.text, site.place);
+    let (_, rest) = site.before.split_at(line.len().min(site.before.len()));
+    match rest {
+        [last, ..] if is_line_end(halves(before, last.end).1) => Some(*last),
+        _ => None,
+    }
+}
+
+/// Whether a `(` stands there, and this token before it is a name.
+fn is_call_of(site: &Site<'_, '_>, line: &[Token]) -> bool {
+    is_kind(site.here(), Kind::LeftParen)
+        && match line {
+            [only] => only.kind == Kind::Ident,
+            _ => false,
+        }
 }
 
 /// Where the last line of some bytes begins.
@@ -94,7 +120,7 @@ fn line_begin(bytes: &[u8]) -> usize {
 }
 
 /// How many of these tokens, the last one first, begin from a place on.
-pub(crate) fn begun_from(tokens: &[Token], begin: usize) -> usize {
+pub fn begun_from(tokens: &[Token], begin: usize) -> usize {
     let mut count: usize = 0;
     for token in tokens {
         if token.start < begin {

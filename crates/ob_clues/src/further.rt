@@ -1,11 +1,12 @@
 //! What stands further on behind a place: whether a parenthesis is closed there, whether a BEGIN begins a block, what is declared.
 
+use crate::foreign::is_type_name;
 use ob_evidence::text_site::{Site, is_kind, is_token};
 use ob_explain_tokens::operand_tokens::{is_left, is_right};
 use ob_scan::{Kind, Token};
 
 /// Whether a token stands there behind the END of the module, its name and the `.`.
-pub(crate) fn has_ended(site: &Site<'_, '_>) -> bool {
+pub fn has_ended(site: &Site<'_, '_>) -> bool {
     match site.before {
         [dot, name, end, ..] => {
             is_token(site.here())
@@ -18,7 +19,7 @@ pub(crate) fn has_ended(site: &Site<'_, '_>) -> bool {
 }
 
 /// Whether a `)` that no `(` behind the place opens stands before the next keyword or `:=`.
-pub(crate) fn is_closed_behind(site: &Site<'_, '_>) -> bool {
+pub fn is_closed_behind(site: &Site<'_, '_>) -> bool {
     let mut open: usize = 0;
     for token in site.behind {
         if is_right(token.kind) && open == 0 {
@@ -64,7 +65,7 @@ fn is_no_actual(kind: Kind) -> bool {
 }
 
 /// Whether a BEGIN stands there, and no name behind the END that closes it.
-pub(crate) fn begins_block(site: &Site<'_, '_>) -> bool {
+pub fn begins_block(site: &Site<'_, '_>) -> bool {
     let mut open: usize = 0;
     let mut is_end = false;
     for token in site.behind {
@@ -87,7 +88,7 @@ fn blocks_behind(open: usize, kind: Kind) -> usize {
 }
 
 /// Whether a constant or a type of this name is declared among these tokens.
-pub(crate) fn declares_other(site: &Site<'_, '_>, tokens: &[Token], word: &[u8]) -> bool {
+pub fn declares_other(site: &Site<'_, '_>, tokens: &[Token], word: &[u8]) -> bool {
     let mut begins = false;
     let mut is_named = false;
     for token in tokens {
@@ -100,8 +101,13 @@ pub(crate) fn declares_other(site: &Site<'_, '_>, tokens: &[Token], word: &[u8])
     false
 }
 
+/// Whether a word is the name of a type, of this text or of a language.
+pub fn is_type(site: &Site<'_, '_>, word: &[u8]) -> bool {
+    is_type_name(word) || declares_type(site, word)
+}
+
 /// Whether a type of this name is declared in the text.
-pub(crate) fn declares_type(site: &Site<'_, '_>, word: &[u8]) -> bool {
+fn declares_type(site: &Site<'_, '_>, word: &[u8]) -> bool {
     let mut in_types = false;
     let mut is_named = false;
     for token in site.tokens {
@@ -115,12 +121,12 @@ pub(crate) fn declares_type(site: &Site<'_, '_>, word: &[u8]) -> bool {
 }
 
 /// Whether a word is the name of the type in whose declaration the place stands.
-pub(crate) fn is_own_type(site: &Site<'_, '_>, word: &[u8]) -> bool {
+pub fn is_own_type(site: &Site<'_, '_>, word: &[u8]) -> bool {
     is_defined_there(site, word) && stands_in_types(site)
 }
 
 /// Whether a word is the name of the constant, the variable or the parameter in whose declaration the place stands.
-pub(crate) fn is_own_name(site: &Site<'_, '_>, word: &[u8]) -> bool {
+pub fn is_own_name(site: &Site<'_, '_>, word: &[u8]) -> bool {
     matches!(listed(site, word), Listing::There)
         || (is_defined_there(site, word) && !stands_in_types(site))
 }
@@ -173,7 +179,7 @@ enum Listing {
 
 /// Whether a variable or a parameter of this name is declared before the place, where none of it is visible: so in a procedure that
 /// has ended.
-pub(crate) fn is_elsewhere(site: &Site<'_, '_>, word: &[u8]) -> bool {
+pub fn is_elsewhere(site: &Site<'_, '_>, word: &[u8]) -> bool {
     matches!(listed(site, word), Listing::Before)
 }
 

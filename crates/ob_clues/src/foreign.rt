@@ -16,7 +16,7 @@ const BEFORE_STATEMENTS: [&str; 9] = [
 ];
 
 /// Whether the tables have a hint on this word: it is one of another language, or a keyword but for small letters.
-pub(crate) fn is_foreign(word: &[u8]) -> bool {
+pub fn is_foreign(word: &[u8]) -> bool {
     word_hint(&View {
         number: Number::C1,
         here: None,
@@ -34,7 +34,7 @@ pub(crate) fn is_foreign(word: &[u8]) -> bool {
 }
 
 /// Whether a word is a type of numbers that other languages have.
-pub(crate) fn is_number_type(word: &[u8]) -> bool {
+pub fn is_number_type(word: &[u8]) -> bool {
     let mut end: usize = 0;
     for (at, byte) in word.iter().enumerate() {
         if !byte.is_ascii_digit() {
@@ -46,12 +46,12 @@ pub(crate) fn is_number_type(word: &[u8]) -> bool {
 }
 
 /// Whether a word is the name of a type, in this language or in another one.
-pub(crate) fn is_type_name(word: &[u8]) -> bool {
+pub fn is_type_name(word: &[u8]) -> bool {
     is_one(&TYPES, word) || is_number_type(word)
 }
 
 /// Whether a word is a keyword behind which statements or declarations stand, in small letters or large.
-pub(crate) fn begins_part(word: &[u8]) -> bool {
+pub fn begins_part(word: &[u8]) -> bool {
     is_one(&BEFORE_STATEMENTS, word)
 }
 
