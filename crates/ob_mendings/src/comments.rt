@@ -4,9 +4,10 @@ use crate::fix::{COMMENT, COMMENT_END, fixed, left_out};
 use crate::mending::Mending;
 use crate::part::{CONDITIONS, part_at};
 use crate::tokens::ends_line;
-use ob_evidence::text_site::{Site, is_kind, kind_or_name};
+use ob_evidence::text_site::{Site, is_kind};
 use ob_explain_sentences::place::halves;
-use ob_scan::{Kind, Token};
+use ob_explain_words::declaring::declares;
+use ob_scan::Kind;
 use std::alloc::{AllocError, Global};
 
 /// The mending of a comment that is open at the end: it ends where the line of its begin does.
@@ -34,12 +35,23 @@ pub fn line_mending(alloc: Global, site: &Site<'_, '_>) -> Result<Option<Mending
     }
 }
 
-/// The mending of words behind a `#` in the line of the place, as `# so much` in `x := 1 # so much`.
+/// The mending of two words behind a `#` of which one is a name of nothing, as `# so much` in `x := 1 # so much`.
 pub fn words_mending(alloc: Global, site: &Site<'_, '_>) -> Result<Option<Mending>, AllocError> {
-    match sign_in_line(site) {
-        Some(sign) if follows_value(site) => line_left_out(alloc, site.text, sign.start),
+    match (site.second(), site.last()) {
+        (Some(sign), Some(word))
+            if sign.kind == Kind::NotEqual
+                && word.kind == Kind::Ident
+                && is_kind(site.here(), Kind::Ident)
+                && !(is_name(site, site.word_of(Some(word))) && is_name(site, site.word())) => {
+            line_left_out(alloc, site.text, sign.start)
+        }
         _ => Ok(None),
     }
+}
+
+/// Whether the text declares a name.
+fn is_name(site: &Site<'_, '_>, word: &[u8]) -> bool {
+    declares(site.text, site.tokens, word)
 }
 
 /// The same of one word, of which none is visible, at the end of the line of an assignment or a call.
@@ -54,27 +66,6 @@ pub fn word_mending(alloc: Global, site: &Site<'_, '_>) -> Result<Option<Mending
         }
         _ => Ok(None),
     }
-}
-
-/// Whether a name or a number stands before the place.
-fn follows_value(site: &Site<'_, '_>) -> bool {
-    matches!(kind_or_name(site.last()), Kind::Ident | Kind::Number)
-}
-
-/// The last `#` before the place in its line.
-fn sign_in_line(site: &Site<'_, '_>) -> Option<Token> {
-    let begin = site
-        .place
-        .saturating_sub(line_before(site.text, site.place).len());
-    for token in site.before {
-        if token.start < begin {
-            return None;
-        }
-        if token.kind == Kind::NotEqual {
-            return Some(*token);
-        }
-    }
-    None
 }
 
 /// The mending that leaves out what stands from a place to the end of its line.
@@ -128,7 +119,7 @@ fn is_in_run(run: Run, byte: u8) -> bool {
 }
 
 /// The bytes up to the end of the line.
-pub(crate) fn line_of(from: &[u8]) -> &[u8] {
+pub fn line_of(from: &[u8]) -> &[u8] {
     halves(from, length_of_run(from, Run::UpTo(b'\n'))).0
 }
 

@@ -46,6 +46,8 @@ pub const END_THERE: Fix = fix!(b" END " => "with END before it");
 
 pub const END_BEFORE: Fix = fix!(b"; END " => "with one more END before it");
 
+pub const RECORD_END: Fix = fix!(b" END; " => "with END; before it");
+
 pub const VAR_BEFORE: Fix = fix!(b"VAR " => "with VAR before it");
 
 pub const CONST_BEFORE: Fix = fix!(b"CONST " => "with CONST before it");
@@ -104,6 +106,8 @@ pub const UNEQUAL_WORD: Fix = fix!(b"#" => "with # for XOR");
 
 pub const PROCEDURE_WORD: Fix = fix!(b"PROCEDURE" => "with PROCEDURE for the word before it");
 
+pub const PROCEDURE_THERE: Fix = fix!(b"PROCEDURE" => "with PROCEDURE in its place");
+
 pub const MODULE_WORD: Fix = fix!(b"MODULE" => "with MODULE written there");
 
 pub const UNTIL_WORD: Fix = fix!(b"UNTIL 0=0 " => "with UNTIL and a condition in its place");
@@ -135,6 +139,10 @@ pub const END_WORD: Fix = fix!(b"END" => "with END written there");
 // something is too much
 pub const NOTHING: Fix = fix!(b"" => "with this left out");
 
+pub const VAR_WORD: Fix = fix!(b"VAR" => "with VAR for the word before it");
+
+pub const VAR_THERE: Fix = fix!(b"VAR" => "with VAR in its place");
+
 pub const WORD_BEFORE: Fix = fix!(b"" => "with the word before it left out");
 
 pub const EXPORT: Fix = fix!(b"" => "with the * left out");
@@ -152,6 +160,18 @@ pub const STATEMENT: Fix =
 
 pub const CONDITION: Fix =
     fix!(b"0=0 " => "with this condition left out, whatever else is wrong in it");
+
+pub const BODY: Fix =
+    fix!(b"" => "with the statements of this body left out, whatever else is wrong in them");
+
+pub const DECLARATION: Fix = fix!(b"" => "with this declaration left out");
+
+pub const PROCEDURE: Fix =
+    fix!(b"" => "with this procedure left out, whatever else is wrong in it");
+
+pub const VAR_PARAMETER: Fix = fix!(b"VAR " => "with VAR before the parameter");
+
+pub const LOOP_HEADING: Fix = fix!(b"WHILE 0=0 DO" => "with a WHILE for the FOR");
 
 pub const LOOP: Fix = fix!(b"WHILE 0=0 " => "with a WHILE for the FOR");
 
@@ -179,6 +199,22 @@ pub const FALSE: Fix = fix!(b"FALSE" => "with FALSE in its place");
 pub const TRUE: Fix = fix!(b"TRUE" => "with TRUE in its place");
 
 pub const BOOLEAN: Fix = fix!(b"BOOLEAN" => "with BOOLEAN in its place");
+
+/// What is put.
+pub fn bytes_of(fix: Fix) -> &'static [u8] {
+    fix.put
+}
+
+/// How what is put where a line ends is told before the line's number, where that is known.
+pub fn told_at_end(fix: Fix) -> Option<&'static str> {
+    match fix.put {
+        b" THEN " => Some("with THEN at the end of line "),
+        b" DO " => Some("with DO at the end of line "),
+        b")" => Some("with ) at the end of line "),
+        b"]" => Some("with ] at the end of line "),
+        _ => None,
+    }
+}
 
 /// The mending that puts something in place of so many bytes, told so.
 pub fn put(

@@ -4,7 +4,7 @@ use crate::fix::{CONDITION, Fix, LOOP, STATEMENT, left_out};
 use crate::mending::Mending;
 use crate::tokens::{first_behind, first_of};
 use ob_evidence::small_keywords::next_behind;
-use ob_evidence::text_site::{Site, is_kind};
+use ob_evidence::text_site::Site;
 use ob_explain_sentences::first_word::is_same_in_any_case;
 use ob_explain_sentences::place::halves;
 use ob_scan::{Kind, Token};
@@ -12,10 +12,10 @@ use std::alloc::{AllocError, Global};
 
 /// A part of a body: the token behind which it begins, its first one, and the one before which it ends.
 #[derive(Clone, Copy)]
-pub(crate) struct Part {
-    pub(crate) leader: Token,
-    pub(crate) first: Token,
-    pub(crate) end: Token,
+pub struct Part {
+    pub leader: Token,
+    pub first: Token,
+    pub end: Token,
 }
 
 /// With these a section of a module or a procedure begins: its heading, declarations, or its body.
@@ -84,7 +84,7 @@ pub fn part_mending(alloc: Global, site: &Site<'_, '_>) -> Result<Option<Mending
 }
 
 /// The part of a body in which the place stands.
-pub(crate) fn part_at(site: &Site<'_, '_>) -> Option<Part> {
+pub fn part_at(site: &Site<'_, '_>) -> Option<Part> {
     if !is_in_body(site.before) {
         return None;
     }
@@ -94,9 +94,21 @@ pub(crate) fn part_at(site: &Site<'_, '_>) -> Option<Part> {
     Some(Part { leader, first, end })
 }
 
-/// Whether the first of these tokens with which a section begins is a BEGIN.
+/// Whether the first of these tokens with which a section begins is a BEGIN, and no procedure ends before it: its END, its name and a `;`.
 pub fn is_in_body(tokens: &[Token]) -> bool {
-    is_kind(first_of(tokens, SECTIONS), Kind::Begin)
+    let mut next = Kind::Module;
+    let mut second = Kind::Module;
+    for token in tokens {
+        if SECTIONS.contains(&token.kind) {
+            return token.kind == Kind::Begin;
+        }
+        if token.kind == Kind::End && next == Kind::Ident && second == Kind::Semicolon {
+            return false;
+        }
+        second = next;
+        next = token.kind;
+    }
+    false
 }
 
 /// Words with which other languages begin a statement that has others in it.

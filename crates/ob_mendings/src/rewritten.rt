@@ -5,7 +5,7 @@ use crate::comments::{Run, length_of_run, line_of};
 use crate::fix::worded;
 use crate::mending::Mending;
 use crate::part::{CONDITIONS, Part, part_at};
-use crate::tokens::first_behind;
+use crate::tokens::{between, first_behind};
 use ob_evidence::small_keywords::next_behind;
 use ob_evidence::text_site::Site;
 use ob_explain_sentences::first_word::{is_same_in_any_case, word_at};
@@ -38,12 +38,6 @@ pub fn count_mending(alloc: Global, site: &Site<'_, '_>) -> Result<Option<Mendin
         }
         _ => Ok(None),
     }
-}
-
-/// The bytes from one place up to another, without blanks at both ends.
-fn between(text: &[u8], from: usize, to: usize) -> &[u8] {
-    let (_, rest) = halves(text, from);
-    halves(rest, to.saturating_sub(from)).0.trim_ascii()
 }
 
 /// The variable that a statement between two places counts, if it does that.
@@ -200,30 +194,65 @@ fn named_behind(site: &Site<'_, '_>, first: Token, word: &[u8]) -> Option<Token>
     None
 }
 
-/// What is put in place of a condition: what was put of it, where the rest begins, whether something is joined in it, and whether anything has
+/// What is put in place of a condition: what was put of it, where the rest begins, where the last relation in it ends, and whether anything has
 /// parentheses now.
 #[derive(Drop)]
 struct Joined {
     put: Vec<u8>,
     from: usize,
-    compares: bool,
+    relation: Option<usize>,
     is_changed: bool,
 }
 
-/// The mending of `a > 1 & b > 2`, which compares a with `1 & b`: `(a > 1) & (b > 2)`.
+/// The mending of `a > 1 & b > 2`, which compares a with `1 & b`: `(a > 1) & (b > 2)`; and of `a < b < c`: `(a < b) & (b < c)`.
 pub fn paren_mending(alloc: Global, site: &Site<'_, '_>) -> Result<Option<Mending>, AllocError> {
     let Some(part) = part_at(site) else {
         return Ok(None);
     };
-    let Some(begin) = value_begin(site, part) else {
+    let Some(first) = value_begin(site, part) else {
         return Ok(None);
     };
-    let whole = between(site.text, begin, part.end.start);
-    let joined = joined_in(alloc, site, begin, part.end.start)?;
+    let (begin, end) = condition_around(site, first, part.end.start);
+    let whole = between(site.text, begin, end);
+    let joined = joined_in(alloc, site, begin, end)?;
     if whole.contains(&b'\n') || !joined.is_changed {
         return Ok(None);
     }
     worded(alloc, begin, whole.len(), &joined.put, " in its place")
+}
+
+/// Where the condition around the place begins and ends, between these two places: in the parentheses that are open there, if any are.
+fn condition_around(site: &Site<'_, '_>, first: usize, end: usize) -> (usize, usize) {
+    let mut inside: usize = 0;
+    for token in site.before {
+        if token.start < first {
+            return (first, end);
+        }
+        match token.kind {
+            Kind::RightParen | Kind::RightBracket => inside = inside.saturating_add(1),
+            Kind::LeftParen if inside == 0 => return (token.end, closed_at(site, end)),
+            Kind::LeftParen | Kind::LeftBracket => inside = inside.saturating_sub(1),
+            _ => {}
+        }
+    }
+    (first, end)
+}
+
+/// Where the parentheses around the place are closed, or this end.
+fn closed_at(site: &Site<'_, '_>, end: usize) -> usize {
+    let mut inside: usize = 0;
+    for token in site.behind {
+        if end <= token.start {
+            return end;
+        }
+        match token.kind {
+            Kind::LeftParen => inside = inside.saturating_add(1),
+            Kind::RightParen if inside == 0 => return token.start,
+            Kind::RightParen => inside = inside.saturating_sub(1),
+            _ => {}
+        }
+    }
+    end
 }
 
 /// Where the condition of a part begins, or the value of an assignment.
@@ -250,7 +279,7 @@ fn joined_in(
     let mut joined = Joined {
         put: Vec::new(alloc),
         from: begin,
-        compares: false,
+        relation: None,
         is_changed: false,
     };
     let mut inside: usize = 0;
@@ -267,7 +296,9 @@ fn joined_in(
                 joined.push(site.text, token.start)?;
                 joined.join(site.text, *token)?;
             }
-            kind if inside == 0 && is_relation(kind) => joined.compares = true,
+            kind if inside == 0 && is_relation(kind) => {
+                is_joined = joined.compare(site.text, *token)? || is_joined;
+            }
             _ => {}
         }
     }
@@ -281,15 +312,44 @@ impl Joined {
     /// Puts what stands up to a place.
     fn push(&mut self, text: &[u8], to: usize) -> Result<(), AllocError> {
         let piece = between(text, self.from, to);
-        if self.compares {
+        if self.relation.is_some() {
             self.put.push(b'(')?;
-            self.put.extend_from_slice(piece)?;
+            self.push_compared(piece)?;
             self.put.push(b')')?;
             self.is_changed = true;
         } else {
             self.put.extend_from_slice(piece)?;
         }
-        self.compares = false;
+        self.relation = None;
+        Ok(())
+    }
+
+    /// Takes a relation, and tells whether another one stands before it: then what stands between them is compared twice. A sign that touches
+    /// the one before is a part of that.
+    fn compare(&mut self, text: &[u8], sign: Token) -> Result<bool, AllocError> {
+        let last = self.relation;
+        let is_second = match last {
+            Some(end) if end < sign.start => {
+                self.push(text, sign.start)?;
+                self.put.extend_from_slice(b" & ")?;
+                self.from = end;
+                true
+            }
+            _ => false,
+        };
+        self.relation = Some(sign.end);
+        Ok(is_second)
+    }
+
+    /// Puts a comparison, with one `=` for two.
+    fn push_compared(&mut self, piece: &[u8]) -> Result<(), AllocError> {
+        let mut last = b' ';
+        for byte in piece {
+            if last != b'=' || *byte != b'=' {
+                self.put.push(*byte)?;
+            }
+            last = *byte;
+        }
         Ok(())
     }
 

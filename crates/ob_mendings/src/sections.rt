@@ -34,8 +34,17 @@ pub fn order_mending(alloc: Global, site: &Site<'_, '_>) -> Result<Option<Mendin
         taken: 0,
         put: in_one_line(alloc, section)?,
         elsewhere: Elsewhere::Moved(here.start, taken),
-        told: Told::Line("with this section put before line ", ""),
+        told: Told::Line(told_of(misplaced.joins), ""),
     }))
+}
+
+/// How it is told, before its line: whether its first word is left out.
+fn told_of(joins: bool) -> &'static str {
+    if joins {
+        "with what it declares, without the word before it, put before line "
+    } else {
+        "with this section put before line "
+    }
 }
 
 /// Bytes with a blank for each line feed.

@@ -8,9 +8,11 @@ use crate::fix::{
 use crate::mending::{Elsewhere, Mending, Told};
 use crate::part::{CONDITIONS, part_at};
 use crate::tokens::ends_line;
-use ob_evidence::text_site::Site;
-use ob_explain_sentences::first_word::{is_same_in_any_case, word_at};
+use ob_evidence::text_site::{Site, is_kind, kind_or_name};
+use ob_explain_names::declarations::is_declared;
+use ob_explain_sentences::first_word::{is_same, is_same_in_any_case, word_at};
 use ob_explain_sentences::place::halves;
+use ob_scan::Kind;
 use std::alloc::{AllocError, Global};
 
 /// A sign of which a part stands before the place of a fault, and the rest from there on; and what is meant by it.
@@ -33,9 +35,11 @@ const SIGNS: &[Sign] = signs! {
     b"<", b">" => UNEQUAL;
     b"=", b">" => AT_LEAST;
     b"=", b"<" => AT_MOST;
+    b"=", b"==" => ONE_EQUAL;
     b"=", b"=" => ONE_EQUAL;
     b"&", b"&" => ONE_AND;
     b"", b"<-" => ARROW;
+    b"", b"!==" => NOT_EQUAL;
     b"", b"!=" => NOT_EQUAL;
     b"", b"!" => NOT;
     b"", b"||" => OR;
@@ -46,9 +50,11 @@ const SIGNS: &[Sign] = signs! {
 
 /// The signs that are meant to assign.
 const ASSIGNS: &[Sign] = signs! {
+    b"", b": =" => ASSIGN;
     b"", b"=:" => ASSIGN;
     b"", b"==" => ASSIGN;
     b"", b"=" => ASSIGN;
+    b"", b":" => ASSIGN;
 };
 
 /// The mending of the sign that stands at a place, if it is a slip.
@@ -70,11 +76,31 @@ pub fn sign_mending(
             Elsewhere::Letters,
             "with a letter for each _",
         ))),
+        [b'/', b'/', behind @ ..] if is_quotient(before, behind) => fixed(alloc, place, 2, DIV),
         [b'/', b'/', ..] => left_out(alloc, place, line_of(from), COMMENT),
         [b'/', b'*', ..] => left_out(alloc, place, comment_of(from), COMMENT),
         [b'|', ..] if ends_line(before) => fixed(alloc, place, 1, BYTE),
         [b'"' | b'\'', ..] => fixed(alloc, place, quoted(from), ZERO),
         _ => whole_mending(alloc, place, first_there(SIGNS, text, place)),
+    }
+}
+
+/// Whether an operand stands before a `//`, and behind it a number, or a name and then a mark.
+fn is_quotient(before: &[u8], behind: &[u8]) -> bool {
+    let ends_operand = match before.trim_ascii_end() {
+        [.., last] => last.is_ascii_alphanumeric() || *last == b')' || *last == b']',
+        [] => false,
+    };
+    let operand = behind.trim_ascii_start();
+    let (_, rest) = halves(operand, word_at(operand).len());
+    match (operand, rest.trim_ascii_start()) {
+        ([first, ..], _) if first.is_ascii_digit() => ends_operand,
+        ([first, ..], [mark, ..]) => {
+            ends_operand
+                && first.is_ascii_alphabetic()
+                && matches!(*mark, b';' | b')' | b']' | b'+' | b'-' | b'*')
+        }
+        _ => false,
     }
 }
 
@@ -161,15 +187,27 @@ pub fn number_mending(
     fixed(alloc, place, length_of_run(from, Run::Digits), ONE)
 }
 
-/// The mending of an `=` at the place that is meant to assign, in a statement.
+/// The mending of an `=` or a `:` at the place that is meant to assign, in a statement.
 pub fn assign_mending(alloc: Global, site: &Site<'_, '_>) -> Result<Option<Mending>, AllocError> {
-    match part_at(site) {
-        Some(part) if !CONDITIONS.contains(&part.leader.kind) => {
-            let sign = first_there(ASSIGNS, site.text, site.place);
-            whole_mending(alloc, site.place, sign)
+    match (part_at(site), first_there(ASSIGNS, site.text, site.place)) {
+        (Some(part), Some(sign))
+            if !CONDITIONS.contains(&part.leader.kind)
+                && (!matches!(sign.from, [b':']) || is_assignable(site)) => {
+            whole_mending(alloc, site.place, Some(sign))
         }
         _ => Ok(None),
     }
+}
+
+/// Whether a variable, or an element of one, stands before the place, and no type behind it.
+fn is_assignable(site: &Site<'_, '_>) -> bool {
+    let word = site.word_of(site.next());
+    let is_type = is_same(word, b"INTEGER")
+        || is_same(word, b"BOOLEAN")
+        || matches!(kind_or_name(site.next()), Kind::Array | Kind::Record);
+    !is_type
+        && (is_kind(site.last(), Kind::RightBracket)
+            || is_declared(site.text, site.known, site.word_of(site.last())))
 }
 
 /// The mending of a sign: the whole of it is taken out.

@@ -23,6 +23,22 @@ pub fn first_behind(tokens: &[Token], place: usize, kinds: &[Kind]) -> Option<To
     None
 }
 
+/// The first of these tokens, which go back from a place, that begins before another one.
+pub fn last_before(tokens: &[Token], place: usize) -> Option<Token> {
+    for token in tokens {
+        if token.start < place {
+            return Some(*token);
+        }
+    }
+    None
+}
+
+/// The bytes from one place up to another, without blanks at both ends.
+pub fn between(text: &[u8], from: usize, to: usize) -> &[u8] {
+    let (_, rest) = halves(text, from);
+    halves(rest, to.saturating_sub(from)).0.trim_ascii()
+}
+
 /// How many bytes a token has.
 pub fn length_of(token: Option<Token>) -> usize {
     match token {

@@ -46,7 +46,7 @@ pub record IsNext (s : Stage) (before : List ℕ) (last : Mending) (e : TextFaul
 
 -- that there may be more faults than those that are told
 abbrev pub more_faults : List ℕ
-more_faults = codes "there may be more faults: `check` stops at the first\n"
+more_faults = codes "there may be more faults behind this one\n"
 
 -- What is told behind a fault of a text: that there may be more; or a mending with which the text is right; or one with which it has another
 -- fault, that fault, and what is told behind it. At most nine are mended, so that at most ten faults are told. Which mending is chosen is

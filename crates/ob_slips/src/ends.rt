@@ -9,9 +9,11 @@ use ob_explain_sentences::first_word::is_same_in_any_case;
 use ob_explain_sentences::place::halves;
 use ob_explain_tokens::open::{is_unit, open_construct};
 use ob_mendings::fix::{
-    DOT, DOT_THERE, END_BEFORE, END_LEFT_OUT, END_THERE, END_WORD, IMPORT, fixed, left_out, worded,
+    DOT, DOT_THERE, END_BEFORE, END_LEFT_OUT, END_THERE, END_WORD, IMPORT, RECORD_END, fixed,
+    left_out, worded,
 };
 use ob_mendings::mending::Mending;
+use ob_mendings::part::is_in_body;
 use ob_mendings::tokens::{first_behind, first_of, length_of};
 use ob_scan::{Kind, Token};
 use std::alloc::{AllocError, Global};
@@ -25,6 +27,9 @@ pub(crate) fn missing_end(
     let Some(unit) = open_construct(site.before) else {
         return Ok(None);
     };
+    if unit.kind == Kind::Record {
+        return record_end(alloc, site);
+    }
     if closes_around(site.here(), unit.kind) {
         return fixed(alloc, site.place, 0, END_THERE);
     }
@@ -43,6 +48,31 @@ pub(crate) fn missing_end(
             _ => fixed(alloc, site.place, 0, END_THERE),
         }
     }
+}
+
+/// The mending that puts the END of a record before the place, where a section or a body begins, or before the name of the next type.
+fn record_end(alloc: Global, site: &Site<'_, '_>) -> Result<Option<Mending>, AllocError> {
+    match (kind_or_name(site.here()), site.last()) {
+        (Kind::Const | Kind::Type | Kind::Var | Kind::Procedure | Kind::Begin, _) => {
+            fixed(alloc, site.place, 0, RECORD_END)
+        }
+        (Kind::Equal, Some(name)) if is_type(site, site.word_of(Some(name))) => {
+            fixed(alloc, name.start, 0, RECORD_END)
+        }
+        _ => Ok(None),
+    }
+}
+
+/// Whether a name stands somewhere as a type.
+fn is_type(site: &Site<'_, '_>, name: &[u8]) -> bool {
+    let mut last = Kind::Module;
+    for token in site.tokens {
+        if matches!(last, Kind::Colon | Kind::Of) && site.word_of(Some(*token)) == name {
+            return true;
+        }
+        last = token.kind;
+    }
+    false
 }
 
 /// Whether a token closes or goes on with what stands around a construct of this kind, which wants an END first.
@@ -102,6 +132,25 @@ pub(crate) fn inner_end(alloc: Global, site: &Site<'_, '_>) -> Result<Option<Men
     put.extend_from_slice(name_of(site, unit))?;
     put.extend_from_slice(b"; ")?;
     worded(alloc, end.start, 0, &put, "before the END")
+}
+
+/// The mending that puts the END of a procedure, with its name, before the next one.
+pub(crate) fn unended_mending(
+    alloc: Global,
+    site: &Site<'_, '_>,
+) -> Result<Option<Mending>, AllocError> {
+    match open_construct(site.before) {
+        Some(unit)
+            if unit.kind == Kind::Procedure
+                && is_kind(site.here(), Kind::Procedure)
+                && is_in_body(site.before) => {
+            let mut put = Vec::from_slice(alloc, b"END ")?;
+            put.extend_from_slice(name_of(site, unit))?;
+            put.extend_from_slice(b"; ")?;
+            worded(alloc, site.place, 0, &put, "before it")
+        }
+        _ => Ok(None),
+    }
 }
 
 /// The mending that puts a `.` at the end of the text.

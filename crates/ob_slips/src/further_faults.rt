@@ -68,10 +68,7 @@ fn told_on(alloc: Global, stage: Stage<'_>, fault: TextFault) -> Result<String, 
 fn more_faults(alloc: Global) -> Result<String, AllocError>
     ensures { IfOk result (λ told. string_bytes told ≡ more_faults) }
 {
-    String::from_str(
-        alloc,
-        "there may be more faults: `check` stops at the first\n",
-    )
+    String::from_str(alloc, "there may be more faults behind this one\n")
 }
 
 /// A move before those that were made before it.

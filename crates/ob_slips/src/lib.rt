@@ -12,7 +12,6 @@ mod names;
 mod slip;
 pub mod slip_remark;
 pub mod stage;
-mod values;
 mod words;
 
 pub use further_faults::told_behind;

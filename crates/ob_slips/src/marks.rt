@@ -1,21 +1,21 @@
 //! Tokens that are missing, or stand where another one is meant: by the tokens around a place, and by what could stand there.
 
-use ob_evidence::text_site::{Site, kind_of, rest_of};
+use ob_evidence::text_site::{Site, is_kind, kind_of, rest_of};
 use ob_explain_names::declarations::first_of;
 use ob_explain_names::expected::expected_kinds;
 use ob_explain_sentences::first_word::is_same;
-use ob_explain_sentences::place::{halves, shown_place};
+use ob_explain_sentences::place::halves;
 use ob_explain_tokens::open::is_in_record;
 use ob_explain_words::declaring::declares;
 use ob_mendings::fix::{
     BEGIN_BEFORE, BEGIN_NAME, BRACKET_BEFORE, COLON, COLON_BEFORE, COMMA_BEFORE, COMMA_THERE,
-    CONST_BEFORE, DO, DO_BEFORE, EQUAL, Fix, INDEX, NOTHING, OF_ARRAY, OF_BEFORE, PAREN_BEFORE,
-    SEMICOLON, SEMICOLON_THERE, THEN, THEN_BEFORE, TYPE_BEFORE, TYPE_NAME, TYPE_SECTION,
-    UNTIL_WORD, VAR_BEFORE, VAR_NAME, fixed, put,
+    CONST_BEFORE, DO, DO_BEFORE, END_LEFT_OUT, EQUAL, EXPORT, Fix, INDEX, NOTHING, OF_ARRAY,
+    OF_BEFORE, PAREN_BEFORE, SEMICOLON, SEMICOLON_THERE, THEN, THEN_BEFORE, TYPE_BEFORE, TYPE_NAME,
+    TYPE_SECTION, UNTIL_WORD, VAR_BEFORE, VAR_NAME, bytes_of, fixed, put, told_at_end,
 };
 use ob_mendings::mending::{Mending, Told};
 use ob_mendings::part::is_in_body;
-use ob_mendings::tokens::{ends_line, length_of};
+use ob_mendings::tokens::{ends_line, first_of as first_kind, length_of};
 use ob_scan::{Kind, Token};
 use std::alloc::{AllocError, Global};
 
@@ -33,7 +33,8 @@ struct Mark {
 }
 
 /// What else is asked for: that a line ends before the place, that the text does not declare the name before it, or does, that it declares the
-/// one there, or does not, that the place stands in no record and in no body, or so with a type behind what comes next.
+/// one there, or does not, that a `)` comes before another statement, that the place stands in no record and in no body, or so with a type behind
+/// what comes next.
 #[derive(Clone, Copy)]
 enum Asked {
     Nothing,
@@ -42,6 +43,7 @@ enum Asked {
     Old,
     Known,
     Unknown,
+    Closed,
     Outside,
     Typed,
 }
@@ -53,6 +55,8 @@ enum Meant {
     There(Fix),
     Last(Fix),
     Second(Fix),
+    /// Nothing in place of the last one.
+    Out(Fix),
     /// A `;`, which is told by its line where a line ends.
     Semicolon(Fix),
 }
@@ -87,19 +91,25 @@ const MARKS: &[Mark] = marks! {
     &[], Nothing, &[Kind::If, Kind::While, Kind::Repeat], &[], Kind::Do => Before DO_BEFORE;
     &[], Nothing, &[Kind::Ident], &[Kind::Assign, Kind::LeftParen], Kind::Do => Before DO_BEFORE;
     &[], Line, &[Kind::Ident], &[Kind::LeftBracket, Kind::Dot, Kind::Semicolon, Kind::End], Kind::Do => Before DO_BEFORE;
-    // `WHILE x > 1 D0 x := 2`
+    // `WHILE x > 1 DOO x := 2`
     &[], Unknown, &[Kind::Ident], &[Kind::Ident, Kind::If, Kind::While, Kind::Repeat], Kind::Do => There DO;
     &[], Nothing, &[Kind::Colon, Kind::Then, Kind::Begin], &[], Kind::Do => There DO;
     &[], Nothing, &[Kind::Semicolon], &[Kind::Do], Kind::Do => There NOTHING;
     // `IF x > 1 THEN BEGIN`
     &[Kind::Then, Kind::Else, Kind::Do, Kind::Repeat], Nothing, &[Kind::Begin], &[], Kind::If => There NOTHING;
-    // `REPEAT .. END`
+    // `REPEAT .. END UNTIL b`, `REPEAT .. END`
+    &[], Nothing, &[Kind::End], &[Kind::Until], Kind::Until => There NOTHING;
     &[], Nothing, &[Kind::End], &[], Kind::Until => There UNTIL_WORD;
     // `a[i, j]`, `ARRAY 4, 5 OF INTEGER`
     &[], Nothing, &[Kind::Comma], &[], Kind::RightBracket => There INDEX;
     &[], Nothing, &[Kind::Comma], &[], Kind::Of => There OF_ARRAY;
-    // `P(1; 2)`
-    &[], Nothing, &[Kind::Semicolon], &[Kind::Number], Kind::Comma => There COMMA_THERE;
+    // `P(1; 2)`, `P(1; x)`
+    &[], Closed, &[Kind::Semicolon], &[], Kind::Comma => There COMMA_THERE;
+    // `IF a THEN x := 1 END ELSE x := 2 END`
+    &[Kind::End], Nothing, &[Kind::Else, Kind::Elsif], &[], Kind::Semicolon => Out END_LEFT_OUT;
+    // `VAR x*: INTEGER`, `RECORD key*, value*: INTEGER END`, `CONST n* = 5`
+    &[], Nothing, &[Kind::Times], &[Kind::Colon, Kind::Comma], Kind::Colon => There EXPORT;
+    &[], Nothing, &[Kind::Times], &[Kind::Equal], Kind::Equal => There EXPORT;
     // `ELSE:`
     &[Kind::Then, Kind::Else, Kind::Do, Kind::Repeat], Nothing, &[Kind::Colon], &[], Kind::If => There NOTHING;
     // `CONST n := 5`, `IF n := 5 THEN`, `CONST n: 5`, `TYPE T: ARRAY 4 OF INTEGER`
@@ -148,6 +158,11 @@ const MARKS: &[Mark] = marks! {
         Kind::RightParen => Before PAREN_BEFORE;
     // `P(x 1)`
     &[Kind::LeftParen, Kind::Comma], Nothing, &[Kind::Ident, Kind::Number], &[Kind::Comma, Kind::RightParen], Kind::Comma => Before COMMA_BEFORE;
+    // `x := = 1`, `b :== 2`, `b := := 3`
+    &[Kind::Assign], Nothing, &[Kind::Equal, Kind::Assign], &[], Kind::Number => There NOTHING;
+    // `x := a[i]]`, `P(1))`, `IF (x > 1)) THEN`
+    &[], Nothing, &[Kind::RightParen, Kind::RightBracket], &[], Kind::And => There NOTHING;
+    &[Kind::RightParen], Nothing, &[Kind::RightParen], &[], Kind::Semicolon => There NOTHING;
     // `x := 1 y := 2`, `PROCEDURE P(x: INTEGER) BEGIN`
     &[Kind::Assign, Kind::Plus, Kind::Minus, Kind::Times, Kind::Div, Kind::Mod, Kind::RightBracket, Kind::End], Nothing, &[Kind::Ident],
         &[Kind::Assign], Kind::Semicolon => Semicolon SEMICOLON;
@@ -192,12 +207,31 @@ fn holds_there(site: &Site<'_, '_>, asked: Asked) -> bool {
         Asked::New => !declares(site.text, site.tokens, site.word_of(site.last())),
         Asked::Old => declares(site.text, site.tokens, site.word_of(site.last())),
         Asked::Known => declares(site.text, site.tokens, site.word()),
-        Asked::Unknown => !declares(site.text, site.tokens, site.word()),
+        Asked::Unknown => {
+            matches!(site.word(), [b'T' | b't' | b'D' | b'd', ..])
+                && !declares(site.text, site.tokens, site.word())
+        }
+        Asked::Closed => is_kind(first_kind(site.behind, STATEMENT), Kind::RightParen),
         Asked::Outside => is_outside(site),
         Asked::Typed => is_outside(site)
             && is_asked(TYPES, kind_in(site, first_of(rest_of(site.behind)))),
     }
 }
+
+/// The first of these shows whether a list of arguments goes on, or another statement begins.
+const STATEMENT: &[Kind] = &[
+    Kind::RightParen,
+    Kind::LeftParen,
+    Kind::Assign,
+    Kind::Semicolon,
+    Kind::End,
+    Kind::Else,
+    Kind::Elsif,
+    Kind::Until,
+    Kind::If,
+    Kind::While,
+    Kind::Repeat,
+];
 
 /// With these a type begins.
 const TYPES: &[Kind] = &[Kind::Array, Kind::Record, Kind::Type];
@@ -246,14 +280,25 @@ fn meant_there(
     meant: Meant,
 ) -> Result<Option<Mending>, AllocError> {
     match meant {
-        Meant::Before(fix) => fixed(alloc, site.place, 0, fix),
+        Meant::Before(fix) => put_before(alloc, site, fix),
         Meant::There(fix) => fixed(alloc, site.place, length_of(site.here()), fix),
         Meant::Semicolon(fix) if !ends_line(halves(site.text, site.place).0) => {
             fixed(alloc, site.place, 0, fix)
         }
         Meant::Semicolon(_) => semicolon_behind(alloc, site),
+        Meant::Out(fix) => fixed(alloc, start_of(site.last()), length_of(site.last()), fix),
         Meant::Last(fix) => fixed(alloc, start_of(site.last()), 0, fix),
         Meant::Second(fix) => fixed(alloc, start_of(site.second()), 0, fix),
+    }
+}
+
+/// The mending that puts something before the token there: at the end of the line before it, where a line ends.
+fn put_before(alloc: Global, site: &Site<'_, '_>, fix: Fix) -> Result<Option<Mending>, AllocError> {
+    match (site.last(), told_at_end(fix)) {
+        (Some(last), Some(told)) if ends_line(halves(site.text, site.place).0) => {
+            put(alloc, last.end, 0, bytes_of(fix), Told::Line(told, ""))
+        }
+        _ => fixed(alloc, site.place, 0, fix),
     }
 }
 

@@ -1,13 +1,14 @@
 //! Which mending is chosen, by what stands at a fault of a text: the first one with which the text has no fault, or one further on. Which sorts
 //! are tried, and in which order, is a matter of taste: rows of the tests show it.
 
-use crate::ends::{import_mending, inner_end, missing_dot, missing_end, nameless_end};
+use crate::ends::{
+    import_mending, inner_end, missing_dot, missing_end, nameless_end, unended_mending,
+};
 use crate::marks::{mark_mending, semicolon_behind};
-use crate::names::{end_mending, export_mending, near_mending, twice_mending};
-use crate::values::{range_mending, result_mending, truth_mending, value_mending, var_mending};
+use crate::names::{end_mending, near_mending};
 use crate::words::{
     alone_before, alone_there, colon_mending, index_mending, keyword_mending, misspelt_before,
-    misspelt_there, pointer_mending, prefix_mending, swapped_mending, type_mending,
+    misspelt_first, misspelt_there, pointer_mending, prefix_mending, swapped_mending, type_mending,
 };
 use ob_check::TextFault;
 use ob_evidence::small_keywords::first_of_statement;
@@ -25,6 +26,21 @@ use ob_mendings::signs::{assign_mending, byte_mending, number_mending, sign_mend
 use ob_mendings::tokens::{ends_line, length_of};
 use ob_mendings::verdict::verdict;
 use ob_parser::parser::ParseFault;
+use ob_part_mendings::constructs::{
+    bar_mending, block_mending, body_mending, empty_mending, level_mending, loop_mending,
+    whole_mending,
+};
+use ob_part_mendings::declarations::{
+    declared_mending, initial_mending, listed_mending, local_mending, parameter_mending,
+    twice_mending,
+};
+use ob_part_mendings::headings::{
+    export_mending, heading_mending, late_star_mending, star_mending,
+};
+use ob_part_mendings::values::{
+    length_mending, out_mending, range_mending, result_mending, truth_mending, typed_mending,
+    value_mending, var_mending,
+};
 use ob_scan::{Kind, ScanFault};
 use ob_scopes::fault::CheckFault;
 use ob_typing::rule::Rule;
@@ -46,6 +62,7 @@ enum Sort {
     /// A keyword that is misspelt.
     MisspeltThere,
     MisspeltBefore,
+    MisspeltFirst,
     /// The word before a name that is declared.
     Prefix,
     /// A type before its name, and POINTER TO before one.
@@ -92,13 +109,40 @@ enum Sort {
     /// A VAR before a type, and a length that is written as two indices.
     Var,
     Range,
+    /// A type of a constant, a parameter with OUT behind its name, a length behind a type, a `*` before the name of a procedure, and a procedure without its END.
+    Typed,
+    Out,
+    Length,
+    Star,
+    Unended,
     /// A 0 or a 1 for FALSE or TRUE, and an END that is missing before another one.
     Truth,
     Inner,
+    /// A name of another level. A block that ends before an ELSE, a CASE, there or at a `|` in it, a FOR of another form, a variable declared where it is assigned first, an assignment of nothing, and
+    /// the whole body.
+    Block,
+    Whole,
+    Bar,
+    Loop,
+    Local,
+    Empty,
+    Level,
+    Body,
+    /// A name that is not declared, a type that lists names, a variable declared with a value, a parameter without VAR, the name in a heading, and a `*` behind one.
+    Declared,
+    Listed,
+    Initial,
+    Parameter,
+    Heading,
+    LateStar,
 }
 
 /// The sorts that are tried where a token can't stand.
 const OF_TOKENS: &[Sort] = &[
+    Sort::Count,
+    Sort::Block,
+    Sort::Whole,
+    Sort::Local,
     Sort::Line,
     Sort::Import,
     Sort::Dot,
@@ -110,13 +154,23 @@ const OF_TOKENS: &[Sort] = &[
     Sort::WordFirst,
     Sort::MisspeltThere,
     Sort::MisspeltBefore,
+    Sort::MisspeltFirst,
+    Sort::Out,
+    Sort::Length,
     Sort::Prefix,
     Sort::Swapped,
     Sort::Pointer,
     Sort::Index,
-    Sort::Count,
     Sort::For,
+    Sort::Loop,
     Sort::Paren,
+    Sort::Star,
+    Sort::LateStar,
+    Sort::Typed,
+    Sort::Listed,
+    Sort::Initial,
+    Sort::Empty,
+    Sort::Unended,
     Sort::Mark,
     Sort::Order,
     Sort::Colon,
@@ -130,6 +184,7 @@ const OF_TOKENS: &[Sort] = &[
     Sort::Var,
     Sort::Range,
     Sort::Value,
+    Sort::Body,
 ];
 
 /// Those where none of a name is visible.
@@ -139,8 +194,10 @@ const OF_NAMES: &[Sort] = &[
     Sort::Type,
     Sort::Near,
     Sort::Count,
+    Sort::Declared,
     Sort::Part,
     Sort::Value,
+    Sort::Body,
 ];
 
 /// A mending of the text of a fault, where one is known.
@@ -167,16 +224,26 @@ pub(crate) fn slip_mending(
 /// The sorts that are tried at a fault, in this order.
 fn sorts_of(fault: TextFault) -> &'static [Sort] {
     match fault {
-        TextFault::Scan(ScanFault::StrayByte(_)) => &[Sort::Byte],
+        TextFault::Scan(ScanFault::StrayByte(_)) => &[Sort::Bar, Sort::Byte],
         TextFault::Scan(ScanFault::NumberTooLarge(_)) => &[Sort::Number],
         TextFault::Scan(ScanFault::OpenComment(_)) => &[Sort::Comment],
         TextFault::Parse(ParseFault::Unexpected(_)) => OF_TOKENS,
-        TextFault::Parse(ParseFault::NameDiffers(_)) => &[Sort::EndName, Sort::Inner],
+        TextFault::Parse(ParseFault::NameDiffers(_)) => {
+            &[Sort::Heading, Sort::EndName, Sort::Inner, Sort::Body]
+        }
         TextFault::Check(CheckFault::Broken(broken)) => match broken.rule {
             Rule::UnknownName => OF_NAMES,
             Rule::DeclaredTwice => &[Sort::Twice],
             Rule::BadExport => &[Sort::Export],
-            _ => &[Sort::Truth, Sort::Paren, Sort::Part, Sort::Value],
+            Rule::WrongLevel => &[Sort::Level, Sort::Part, Sort::Body],
+            _ => &[
+                Sort::Truth,
+                Sort::Paren,
+                Sort::Part,
+                Sort::Parameter,
+                Sort::Value,
+                Sort::Body,
+            ],
         },
         _ => &[],
     }
@@ -198,6 +265,7 @@ fn mending_of(
         Sort::WordFirst => keyword_mending(alloc, site, first_of_statement(site)),
         Sort::MisspeltThere => misspelt_there(alloc, site),
         Sort::MisspeltBefore => misspelt_before(alloc, site),
+        Sort::MisspeltFirst => misspelt_first(alloc, site),
         Sort::Prefix => prefix_mending(alloc, site),
         Sort::Swapped => swapped_mending(alloc, site),
         Sort::Mark => mark_mending(alloc, site),
@@ -227,11 +295,30 @@ fn mending_of(
         Sort::Value => value_mending(alloc, site),
         Sort::Index => index_mending(alloc, site),
         Sort::Pointer => pointer_mending(alloc, site),
+        Sort::Typed => typed_mending(alloc, site),
+        Sort::Out => out_mending(alloc, site),
+        Sort::Length => length_mending(alloc, site),
+        Sort::Star => star_mending(alloc, site),
+        Sort::Unended => unended_mending(alloc, site),
         Sort::Var => var_mending(alloc, site),
         Sort::Truth => truth_mending(alloc, site),
         Sort::Inner => inner_end(alloc, site),
         Sort::Range => range_mending(alloc, site),
         Sort::Result => result_mending(alloc, site),
+        Sort::Block => block_mending(alloc, site),
+        Sort::Listed => listed_mending(alloc, site),
+        Sort::Whole => whole_mending(alloc, site),
+        Sort::Bar => bar_mending(alloc, site.text, site.place),
+        Sort::Loop => loop_mending(alloc, site),
+        Sort::Local => local_mending(alloc, site),
+        Sort::Empty => empty_mending(alloc, site),
+        Sort::Level => level_mending(alloc, site),
+        Sort::Body => body_mending(alloc, site),
+        Sort::Declared => declared_mending(alloc, site),
+        Sort::Initial => initial_mending(alloc, site),
+        Sort::Parameter => parameter_mending(alloc, site),
+        Sort::Heading => heading_mending(alloc, site),
+        Sort::LateStar => late_star_mending(alloc, site),
     }
 }
 

@@ -1,10 +1,10 @@
 //! Words of other languages that are slips, keywords in small letters or misspelt, and words that stand alone as a statement, where they are
 //! read as a call.
 
-use ob_diagnosis::keywords::{keyword_before, keyword_there};
+use ob_diagnosis::keywords::{keyword_before, keyword_first, keyword_there};
 use ob_evidence::lone_names::lone_end;
 use ob_evidence::nearest_names::leads_to_statement;
-use ob_evidence::small_keywords::{capitals, next_behind, small_keyword};
+use ob_evidence::small_keywords::{capitals, first_of_statement, next_behind, small_keyword};
 use ob_evidence::text_site::{Site, is_kind, kind_or_name, rest_of};
 use ob_explain_names::declarations::first_of;
 use ob_explain_sentences::first_word::is_same_in_any_case;
@@ -16,11 +16,12 @@ use ob_explain_words::declaring::declares;
 use ob_mendings::capitals::small_words;
 use ob_mendings::fix::{
     AND_WORD, BOOLEAN, ELSIF_WORD, END_WORD, Fix, INTEGER, LOOP_WORD, MODULE_WORD, NOT_WORD,
-    POINTER, PROCEDURE_WORD, UNEQUAL_WORD, WORD_BEFORE, changed, fixed, worded,
+    POINTER, PROCEDURE_THERE, PROCEDURE_WORD, SEMICOLON_THERE, UNEQUAL_WORD, VAR_THERE, VAR_WORD,
+    WORD_BEFORE, changed, fixed, worded,
 };
 use ob_mendings::mending::{Elsewhere, Mending, Told};
 use ob_mendings::part::{ENDS, is_in_body};
-use ob_mendings::tokens::{first_of as token_of, length_of};
+use ob_mendings::tokens::{between, first_of as token_of, last_before, length_of};
 use ob_scan::{Kind, Token};
 use std::alloc::{AllocError, Global};
 
@@ -54,6 +55,9 @@ const WORDS: &[Foreign] = words! {
     b"OD" => END_WORD;
     b"WEND" => END_WORD;
     b"LOOP" => LOOP_WORD;
+    b"DECLARE" => VAR_THERE;
+    b"IS" => SEMICOLON_THERE;
+    b"AS" => SEMICOLON_THERE;
 };
 
 /// Words before the name of a procedure in other languages.
@@ -72,9 +76,11 @@ const HEADINGS: &[Foreign] = words! {
 const PREFIXES: &[Foreign] = words! {
     b"VAR" => WORD_BEFORE;
     b"CONST" => WORD_BEFORE;
-    b"OUT" => WORD_BEFORE;
-    b"INOUT" => WORD_BEFORE;
-    b"REF" => WORD_BEFORE;
+    b"OUT" => VAR_WORD;
+    b"INOUT" => VAR_WORD;
+    b"REF" => VAR_WORD;
+    b"BYREF" => VAR_WORD;
+    b"BYVAL" => WORD_BEFORE;
     b"VAL" => WORD_BEFORE;
     b"IN" => WORD_BEFORE;
     b"LET" => WORD_BEFORE;
@@ -95,6 +101,14 @@ const TYPES: &[Foreign] = words! {
     b"UINT" => INTEGER;
     b"NUMBER" => INTEGER;
     b"BYTE" => INTEGER;
+    b"I32" => INTEGER;
+    b"I64" => INTEGER;
+    b"U8" => INTEGER;
+    b"U32" => INTEGER;
+    b"U64" => INTEGER;
+    b"USIZE" => INTEGER;
+    b"INT32" => INTEGER;
+    b"INT64" => INTEGER;
     b"CHAR" => INTEGER;
     b"STRING" => INTEGER;
     b"REAL" => INTEGER;
@@ -197,6 +211,20 @@ pub(crate) fn misspelt_before(
     keyword_put(alloc, site.last(), keyword_before(alloc, site)?, told)
 }
 
+/// The same of the name with which the statement begins.
+pub(crate) fn misspelt_first(
+    alloc: Global,
+    site: &Site<'_, '_>,
+) -> Result<Option<Mending>, AllocError> {
+    let told = " for the word with which this statement begins";
+    keyword_put(
+        alloc,
+        first_of_statement(site),
+        keyword_first(alloc, site)?,
+        told,
+    )
+}
+
 /// The mending that puts a keyword in place of a name.
 fn keyword_put(
     alloc: Global,
@@ -275,6 +303,9 @@ pub(crate) fn prefix_mending(
     alloc: Global,
     site: &Site<'_, '_>,
 ) -> Result<Option<Mending>, AllocError> {
+    if let Some(heading) = heading_there(site) {
+        return fixed(alloc, site.place, length_of(site.here()), heading);
+    }
     let (Some(name), Some(here)) = (site.last(), site.here()) else {
         return Ok(None);
     };
@@ -289,13 +320,23 @@ pub(crate) fn prefix_mending(
         return fixed(alloc, name.start, length_of(Some(name)), heading.fix);
     }
     match first_same(PREFIXES, word) {
-        Some(prefix) if ends_name(site.next()) => fixed(
+        Some(prefix) if ends_name(site.next()) && !is_kind(site.second(), Kind::Colon) => fixed(
             alloc,
             name.start,
             length_of(Some(name)),
             prefix.fix,
         ),
         _ => Ok(None),
+    }
+}
+
+/// PROCEDURE, if a word of another language for it stands at the place, before a name.
+fn heading_there(site: &Site<'_, '_>) -> Option<Fix> {
+    match first_same(HEADINGS, site.word()) {
+        Some(_) if is_kind(site.next(), Kind::Ident) && !is_in_body(site.before) => {
+            Some(PROCEDURE_THERE)
+        }
+        _ => None,
     }
 }
 
@@ -372,32 +413,41 @@ pub(crate) fn index_mending(
     alloc: Global,
     site: &Site<'_, '_>,
 ) -> Result<Option<Mending>, AllocError> {
-    let name = site.word_of(site.last());
-    let is_variable = declares(site.text, site.tokens, name) && !is_procedure(site, name);
-    let end = token_of(
-        site.behind,
-        &[Kind::RightParen, Kind::LeftParen, Kind::Semicolon],
-    );
-    match (site.here(), end) {
+    let ends = [Kind::RightParen, Kind::LeftParen, Kind::Semicolon];
+    let (open, close) = if is_kind(site.here(), Kind::Assign) {
+        (token_of(site.before, &[Kind::LeftParen]), site.last())
+    } else {
+        (site.here(), token_of(site.behind, &ends))
+    };
+    match (open, close) {
         (Some(open), Some(close))
-            if open.kind == Kind::LeftParen && close.kind == Kind::RightParen && is_variable => {
-            let (_, from) = halves(site.text, open.end);
-            let (inside, _) = halves(from, close.start.saturating_sub(open.end));
-            let mut put = Vec::from_slice(alloc, name)?;
-            put.push(b'[')?;
-            put.extend_from_slice(inside)?;
-            put.push(b']')?;
-            let begin = site.place.saturating_sub(name.len());
-            worded(
-                alloc,
-                begin,
-                close.end.saturating_sub(begin),
-                &put,
-                " in its place",
-            )
+            if open.kind == Kind::LeftParen && close.kind == Kind::RightParen => {
+            bracketed(alloc, site, open, close)
         }
         _ => Ok(None),
     }
+}
+
+/// The mending that puts brackets for these parentheses, if the name of a variable stands before them.
+fn bracketed(
+    alloc: Global,
+    site: &Site<'_, '_>,
+    open: Token,
+    close: Token,
+) -> Result<Option<Mending>, AllocError> {
+    let Some(last) = last_before(site.before, open.start) else {
+        return Ok(None);
+    };
+    let name = site.word_of(Some(last));
+    if is_procedure(site, name) || !declares(site.text, site.tokens, name) {
+        return Ok(None);
+    }
+    let mut put = Vec::from_slice(alloc, name)?;
+    put.push(b'[')?;
+    put.extend_from_slice(between(site.text, open.end, close.start))?;
+    put.push(b']')?;
+    let taken = close.end.saturating_sub(last.start);
+    worded(alloc, last.start, taken, &put, " in its place")
 }
 
 /// Whether the text has a procedure of this name.
@@ -486,16 +536,6 @@ fn is_alone(site: &Site<'_, '_>, token: Token) -> bool {
         && is_new(site, token)
         && ends_part(kind_or_name(next_behind(site.tokens, token.start)))
         && leads_to_statement(kind_or_name(last_before(site.before, token.start)))
-}
-
-/// The first of these tokens that begins before a place.
-fn last_before(tokens: &[Token], place: usize) -> Option<Token> {
-    for token in tokens {
-        if token.start < place {
-            return Some(*token);
-        }
-    }
-    None
 }
 
 /// Whether a part of a body ends before a token.

@@ -2,15 +2,15 @@
 
 use itoa::Buffer;
 use ob_evidence::small_keywords::next_behind;
-use ob_evidence::text_site::{Site, is_kind, kind_or_name};
-use ob_explain_sentences::first_word::is_same;
+use ob_evidence::text_site::{Site, is_kind, kind_or_name, rest_of};
+use ob_explain_sentences::first_word::{is_same, is_same_in_any_case};
 use ob_explain_sentences::place::halves;
 use ob_mendings::fix::{
     BEGIN_COLON, FALSE, Fix, INITIAL, LENGTH, RESULT, TRUE, TYPE, VALUE, fixed, left_out, worded,
 };
 use ob_mendings::mending::Mending;
 use ob_mendings::part::is_in_body;
-use ob_mendings::tokens::{first_behind, first_of, length_of};
+use ob_mendings::tokens::{between, first_behind, first_of, length_of};
 use ob_scan::{Kind, Token};
 use std::alloc::{AllocError, Global};
 
@@ -45,10 +45,7 @@ const ENDS: &[Kind] = &[
 ];
 
 /// The mending of the value, the length or the type in which the place stands, in a declaration.
-pub(crate) fn value_mending(
-    alloc: Global,
-    site: &Site<'_, '_>,
-) -> Result<Option<Mending>, AllocError> {
+pub fn value_mending(alloc: Global, site: &Site<'_, '_>) -> Result<Option<Mending>, AllocError> {
     if is_in_body(site.before)
         || is_kind(site.last(), Kind::Colon) && is_name_there(site)
         || is_assigned(site)
@@ -79,10 +76,7 @@ fn is_name_there(site: &Site<'_, '_>) -> bool {
 
 /// The mending that leaves out the type of a result, which stands behind the parameters of a heading, or the value of a variable, which stands
 /// behind its type.
-pub(crate) fn result_mending(
-    alloc: Global,
-    site: &Site<'_, '_>,
-) -> Result<Option<Mending>, AllocError> {
+pub fn result_mending(alloc: Global, site: &Site<'_, '_>) -> Result<Option<Mending>, AllocError> {
     match (first_of(site.behind, &[Kind::Semicolon]), too_much(site)) {
         (Some(end), Some(fix)) if !is_in_body(site.before) => {
             let (_, from) = halves(site.text, site.place);
@@ -110,6 +104,10 @@ fn begun(alloc: Global, site: &Site<'_, '_>) -> Result<Option<Mending>, AllocErr
 fn too_much(site: &Site<'_, '_>) -> Option<Fix> {
     match (kind_or_name(site.here()), kind_or_name(site.last())) {
         (Kind::Colon, Kind::RightParen) => Some(RESULT),
+        (Kind::Minus, Kind::RightParen) if is_kind(site.next(), Kind::Greater) => Some(RESULT),
+        (Kind::Colon, Kind::Ident | Kind::Times) if is_kind(heading_of(site), Kind::Procedure) => {
+            Some(RESULT)
+        }
         (Kind::Equal | Kind::Assign, Kind::Ident) if is_kind(site.second(), Kind::Colon) => {
             Some(INITIAL)
         }
@@ -117,11 +115,94 @@ fn too_much(site: &Site<'_, '_>) -> Option<Fix> {
     }
 }
 
+/// The token before the name behind which the place stands, or behind whose `*`.
+fn heading_of(site: &Site<'_, '_>) -> Option<Token> {
+    if is_kind(site.last(), Kind::Times) {
+        second_of(rest_of(site.before))
+    } else {
+        site.second()
+    }
+}
+
+/// The mending of the type of a constant, as in `CONST n: INTEGER = 5`: without it.
+pub fn typed_mending(alloc: Global, site: &Site<'_, '_>) -> Result<Option<Mending>, AllocError> {
+    let value = second_of(site.behind);
+    match (site.here(), site.next()) {
+        (Some(colon), Some(named))
+            if colon.kind == Kind::Colon
+                && named.kind == Kind::Ident
+                && is_kind(value, Kind::Equal)
+                && is_constant(site) => {
+            let (_, from) = halves(site.text, colon.start);
+            let length = named.end.saturating_sub(colon.start);
+            left_out(alloc, colon.start, halves(from, length).0, RESULT)
+        }
+        _ => Ok(None),
+    }
+}
+
+/// The second of these tokens.
+fn second_of(tokens: &[Token]) -> Option<Token> {
+    match tokens {
+        [_, second, ..] => Some(*second),
+        _ => None,
+    }
+}
+
+/// The mending of `x: OUT INTEGER` in a heading: VAR stands before the name.
+pub fn out_mending(alloc: Global, site: &Site<'_, '_>) -> Result<Option<Mending>, AllocError> {
+    match (site.last(), second_of(rest_of(site.before))) {
+        (Some(out), Some(name))
+            if is_out(site.word_of(Some(out)))
+                && name.kind == Kind::Ident
+                && is_kind(site.second(), Kind::Colon)
+                && is_kind(site.here(), Kind::Ident) => {
+            let mut put = Vec::from_slice(alloc, b"VAR ")?;
+            put.extend_from_slice(site.word_of(Some(name)))?;
+            put.push(b':')?;
+            let taken = out.end.saturating_sub(name.start);
+            worded(alloc, name.start, taken, &put, " in its place")
+        }
+        _ => Ok(None),
+    }
+}
+
+/// Whether a word says in other languages that a parameter gives a value.
+fn is_out(word: &[u8]) -> bool {
+    is_same_in_any_case(word, b"OUT")
+        || is_same_in_any_case(word, b"INOUT")
+        || is_same_in_any_case(word, b"REF")
+        || is_same_in_any_case(word, b"BYREF")
+}
+
+/// The mending of `a: INTEGER[4]`: the type of an array.
+pub fn length_mending(alloc: Global, site: &Site<'_, '_>) -> Result<Option<Mending>, AllocError> {
+    match (
+        site.here(),
+        site.last(),
+        first_of(site.behind, &[Kind::RightBracket, Kind::Semicolon]),
+    ) {
+        (Some(open), Some(named), Some(close))
+            if open.kind == Kind::LeftBracket
+                && named.kind == Kind::Ident
+                && close.kind == Kind::RightBracket
+                && is_kind(site.second(), Kind::Colon)
+                && !is_in_body(site.before) => {
+            let length = between(site.text, open.end, close.start);
+            let length = if length.is_empty() { b"1" } else { length };
+            let mut put = Vec::from_slice(alloc, b"ARRAY ")?;
+            put.extend_from_slice(length)?;
+            put.extend_from_slice(b" OF ")?;
+            put.extend_from_slice(site.word_of(Some(named)))?;
+            let taken = close.end.saturating_sub(named.start);
+            worded(alloc, named.start, taken, &put, " in its place")
+        }
+        _ => Ok(None),
+    }
+}
+
 /// The mending of `x: VAR INTEGER` in a heading: VAR stands before the name.
-pub(crate) fn var_mending(
-    alloc: Global,
-    site: &Site<'_, '_>,
-) -> Result<Option<Mending>, AllocError> {
+pub fn var_mending(alloc: Global, site: &Site<'_, '_>) -> Result<Option<Mending>, AllocError> {
     match (site.here(), site.second()) {
         (Some(var), Some(name))
             if var.kind == Kind::Var
@@ -138,10 +219,7 @@ pub(crate) fn var_mending(
 }
 
 /// The mending of a 0 or a 1 that is meant to be FALSE or TRUE.
-pub(crate) fn truth_mending(
-    alloc: Global,
-    site: &Site<'_, '_>,
-) -> Result<Option<Mending>, AllocError> {
+pub fn truth_mending(alloc: Global, site: &Site<'_, '_>) -> Result<Option<Mending>, AllocError> {
     match site.here() {
         Some(number) if number.kind == Kind::Number => match number_at(site, number) {
             0 => fixed(alloc, site.place, length_of(Some(number)), FALSE),
@@ -153,10 +231,7 @@ pub(crate) fn truth_mending(
 }
 
 /// The mending of a length that is written as the first and the last index, as `[0..9]`: their number.
-pub(crate) fn range_mending(
-    alloc: Global,
-    site: &Site<'_, '_>,
-) -> Result<Option<Mending>, AllocError> {
+pub fn range_mending(alloc: Global, site: &Site<'_, '_>) -> Result<Option<Mending>, AllocError> {
     let Some(gap) = gap_at(site) else {
         return Ok(None);
     };

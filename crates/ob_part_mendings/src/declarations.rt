@@ -1,0 +1,506 @@
+//! Declarations: one that is there twice, one that is missing, a variable that is declared with a value, and a parameter that lacks its VAR.
+
+use crate::constructs::begins_with;
+use crate::headings::heading_name;
+use itoa::Buffer;
+use ob_evidence::nearest_names::leads_to_statement;
+use ob_evidence::small_keywords::next_behind;
+use ob_evidence::text_site::{Site, is_kind, kind_or_name};
+use ob_explain_sentences::first_word::{is_same, is_same_in_any_case};
+use ob_explain_sentences::place::halves;
+use ob_explain_tokens::open::is_in_record;
+use ob_explain_tokens::operand_tokens::is_relation;
+use ob_explain_tokens::parens::is_in_parens;
+use ob_explain_words::declaring::declares;
+use ob_mendings::fix::{
+    DECLARATION, Fix, INTEGER, PROCEDURE, VAR_PARAMETER, WORD_BEFORE, fixed, left_out, worded,
+};
+use ob_mendings::mending::{Elsewhere, Mending, Told};
+use ob_mendings::part::is_in_body;
+use ob_mendings::tokens::{between, first_behind, first_of, last_before, length_of};
+use ob_scan::{Kind, Token};
+use std::alloc::{AllocError, Global};
+
+/// Words that stand before a variable which is declared where it is assigned first.
+const LOCALS: &[&[u8]] = &[
+    b"LET", b"VAR", b"CONST", b"INT", b"BOOL", b"INTEGER", b"BOOLEAN", b"AUTO", b"DIM", b"LOCAL",
+    b"MY", b"SET",
+];
+
+/// Where a declaration begins.
+const LEADERS: &[Kind] = &[Kind::Semicolon, Kind::Var, Kind::Const, Kind::Type];
+
+/// The mending of a name at the place that is declared twice: without the second declaration, or, where others stand in that too, with a name
+/// that the text has nowhere.
+pub fn twice_mending(alloc: Global, site: &Site<'_, '_>) -> Result<Option<Mending>, AllocError> {
+    match site.last() {
+        Some(procedure) if procedure.kind == Kind::Procedure => match procedure_end(site) {
+            Some(end) => without(alloc, site, procedure.start, end.end, PROCEDURE),
+            None => Ok(None),
+        },
+        Some(leader) if LEADERS.contains(&leader.kind) && is_declared_alone(site) => {
+            match declaration_end(site.behind) {
+                Some(end) => without(alloc, site, site.place, end.end, DECLARATION),
+                None => Ok(None),
+            }
+        }
+        _ => renamed(alloc, site),
+    }
+}
+
+/// The mending that leaves out what stands between two places.
+fn without(
+    alloc: Global,
+    site: &Site<'_, '_>,
+    begin: usize,
+    end: usize,
+    fix: Fix,
+) -> Result<Option<Mending>, AllocError> {
+    let (_, from) = halves(site.text, begin);
+    left_out(alloc, begin, halves(from, end.saturating_sub(begin)).0, fix)
+}
+
+/// Whether the name at the place is the only one of its declaration, in no record and no list of parameters.
+fn is_declared_alone(site: &Site<'_, '_>) -> bool {
+    matches!(
+        kind_or_name(site.next()),
+        Kind::Colon | Kind::Equal | Kind::Times
+    ) && !is_in_parens(site.before)
+        && !is_in_record(site.before)
+}
+
+/// The `;` that ends a declaration, among the tokens behind its name.
+fn declaration_end(tokens: &[Token]) -> Option<Token> {
+    let mut inside: usize = 0;
+    for token in tokens {
+        match token.kind {
+            Kind::Record => inside = inside.saturating_add(1),
+            Kind::End => inside = inside.saturating_sub(1),
+            Kind::Semicolon if inside == 0 => return Some(*token),
+            _ => {}
+        }
+    }
+    None
+}
+
+/// The `;` behind the END of the procedure whose name stands at the place.
+fn procedure_end(site: &Site<'_, '_>) -> Option<Token> {
+    let mut last = None;
+    for token in site.behind {
+        if is_kind(last, Kind::End) && site.word_of(Some(*token)) == site.word() {
+            return first_behind(site.tokens, token.start, &[Kind::Semicolon]);
+        }
+        last = Some(*token);
+    }
+    None
+}
+
+/// The mending that puts a name in place of that at the place which the text has nowhere.
+fn renamed(alloc: Global, site: &Site<'_, '_>) -> Result<Option<Mending>, AllocError> {
+    let mut name = Vec::from_slice(alloc, site.word())?;
+    name.push(b'2')?;
+    if site.word().is_empty() || has_word(site, &name) {
+        return Ok(None);
+    }
+    let length = length_of(site.here());
+    worded(alloc, site.place, length, &name, " in its place")
+}
+
+/// Whether a token of the text is this name.
+fn has_word(site: &Site<'_, '_>, name: &[u8]) -> bool {
+    for token in site.tokens {
+        if site.word_of(Some(*token)) == name {
+            return true;
+        }
+    }
+    false
+}
+
+/// Where variables are declared: the VAR of their section, or what a VAR is to stand before.
+#[derive(Clone, Copy)]
+struct Declaring {
+    token: Token,
+    is_var: bool,
+}
+
+/// The mending of a name of which none is visible, where a variable is meant: it is declared.
+pub fn declared_mending(alloc: Global, site: &Site<'_, '_>) -> Result<Option<Mending>, AllocError> {
+    match declaring_at(site.before) {
+        Some(declaring) if is_variable_meant(site) => {
+            let told = " among the declarations";
+            declared_there(alloc, site, declaring, Elsewhere::Nothing, told)
+        }
+        _ => Ok(None),
+    }
+}
+
+/// The mending that declares the variable at the place.
+fn declared_there(
+    alloc: Global,
+    site: &Site<'_, '_>,
+    declaring: Declaring,
+    elsewhere: Elsewhere,
+    told: &'static str,
+) -> Result<Option<Mending>, AllocError> {
+    let mut put = Vec::from_slice(alloc, b"VAR ")?;
+    put.extend_from_slice(site.word())?;
+    put.extend_from_slice(b": ")?;
+    put.extend_from_slice(type_of(site))?;
+    put.push(b';')?;
+    let taken = if declaring.is_var {
+        length_of(Some(declaring.token))
+    } else {
+        0
+    };
+    Ok(Some(Mending {
+        place: declaring.token.start,
+        taken,
+        put,
+        elsewhere,
+        told: Told::Put(told),
+    }))
+}
+
+/// The type of the variable at the place, by how it stands in the text.
+fn type_of(site: &Site<'_, '_>) -> &'static [u8] {
+    if is_truth(site) {
+        b"BOOLEAN"
+    } else {
+        b"INTEGER"
+    }
+}
+
+/// The mending of `let x := 1`, and of what else declares a variable where it is assigned first: without the word, and with a declaration, where
+/// there is none.
+pub fn local_mending(alloc: Global, site: &Site<'_, '_>) -> Result<Option<Mending>, AllocError> {
+    let (Some(word), Some(place)) = (site.last(), declaring_at(site.before)) else {
+        return Ok(None);
+    };
+    if !is_in_body(site.before)
+        || !is_kind(site.here(), Kind::Ident)
+        || !is_kind(site.next(), Kind::Assign)
+        || !begins_with(site, word, LOCALS)
+    {
+        return Ok(None);
+    }
+    if declares(site.text, site.tokens, site.word()) {
+        return fixed(alloc, word.start, length_of(Some(word)), WORD_BEFORE);
+    }
+    let left = Elsewhere::Moved(word.start, length_of(Some(word)));
+    let told = " among the declarations, and the word before it left out";
+    declared_there(alloc, site, place, left, told)
+}
+
+/// Words of other languages for values that are none.
+const VALUES: [&[u8]; 6] = [b"NONE", b"NULL", b"NIL", b"TRUE", b"FALSE", b"UNDEFINED"];
+
+/// Whether the name at the place is one of a variable without parts, by what stands around it.
+fn is_variable_meant(site: &Site<'_, '_>) -> bool {
+    for value in &VALUES {
+        if is_same_in_any_case(site.word(), value) {
+            return false;
+        }
+    }
+    let next = kind_or_name(site.next());
+    let last = kind_or_name(site.last());
+    is_in_body(site.before)
+        && !site.word().is_empty()
+        && !matches!(next, Kind::LeftParen | Kind::LeftBracket | Kind::Dot)
+        && last != Kind::Dot
+        && !is_field(site)
+        && (next == Kind::Assign || !leads_to_statement(last))
+}
+
+/// Whether a record has a field of the name at the place: then that may be meant.
+fn is_field(site: &Site<'_, '_>) -> bool {
+    let mut inside: usize = 0;
+    for token in site.tokens {
+        match token.kind {
+            Kind::Record => inside = inside.saturating_add(1),
+            Kind::End => inside = inside.saturating_sub(1),
+            _ if inside > 0 && site.word_of(Some(*token)) == site.word() => return true,
+            _ => {}
+        }
+    }
+    false
+}
+
+/// Where variables of the body are declared at whose end these tokens stand, which go back from there.
+fn declaring_at(tokens: &[Token]) -> Option<Declaring> {
+    let mut inside: usize = 0;
+    let mut before = None;
+    for token in tokens {
+        let kind = token.kind;
+        if matches!(kind, Kind::End | Kind::RightParen) {
+            inside = inside.saturating_add(1);
+        } else if inside > 0 {
+            inside = inside.saturating_sub(opened(kind));
+            if inside == 0 && kind == Kind::Procedure {
+                before = Some(*token);
+            }
+        } else if kind == Kind::Begin {
+            before = Some(*token);
+        } else if kind == Kind::Var {
+            return Some(Declaring {
+                token: *token,
+                is_var: true,
+            });
+        } else if matches!(kind, Kind::Procedure | Kind::Module) {
+            return declaring_before(before);
+        }
+    }
+    None
+}
+
+/// That a VAR is to stand before this token.
+fn declaring_before(before: Option<Token>) -> Option<Declaring> {
+    match before {
+        Some(token) => Some(Declaring {
+            token,
+            is_var: false,
+        }),
+        None => None,
+    }
+}
+
+/// How many an END or a `)` closes by this token.
+fn opened(kind: Kind) -> usize {
+    match kind {
+        Kind::If | Kind::While | Kind::Record | Kind::Procedure | Kind::LeftParen => 1,
+        _ => 0,
+    }
+}
+
+/// Whether the name at the place stands somewhere as a condition, or is assigned one.
+fn is_truth(site: &Site<'_, '_>) -> bool {
+    let mut passed = Passed {
+        before: Kind::Module,
+        last: Kind::Module,
+        is_name: false,
+        is_assigned: false,
+    };
+    for token in site.tokens {
+        if passed.tells_condition(site, *token) {
+            return true;
+        }
+        passed = passed.behind(site, *token);
+    }
+    false
+}
+
+/// What was passed of a text: the last two tokens, whether the last one is the name at the place, and whether a value is assigned to that name.
+#[derive(Clone, Copy)]
+struct Passed {
+    before: Kind,
+    last: Kind,
+    is_name: bool,
+    is_assigned: bool,
+}
+
+impl Passed {
+    /// Whether the name is a condition, as the next token tells.
+    fn tells_condition(&self, site: &Site<'_, '_>, token: Token) -> bool {
+        if self.is_assigned && tells_truth(site, token) {
+            return true;
+        }
+        match token.kind {
+            Kind::Then | Kind::Do | Kind::And | Kind::Or => self.is_name
+                && begins_condition(self.before),
+            Kind::Assign => false,
+            _ => self.is_name && matches!(self.before, Kind::Not | Kind::Until),
+        }
+    }
+
+    /// The same behind the next token.
+    fn behind(&self, site: &Site<'_, '_>, token: Token) -> Passed {
+        Passed {
+            before: self.last,
+            last: token.kind,
+            is_name: site.word_of(Some(token)) == site.word(),
+            is_assigned: token.kind == Kind::Assign && self.is_name
+                || self.is_assigned && !ends_statement(token.kind),
+        }
+    }
+}
+
+/// Whether a token shows that what it stands in is a condition.
+fn tells_truth(site: &Site<'_, '_>, token: Token) -> bool {
+    let word = site.word_of(Some(token));
+    is_relation(token.kind)
+        || matches!(token.kind, Kind::Not | Kind::And | Kind::Or)
+        || is_same(word, b"TRUE")
+        || is_same(word, b"FALSE")
+}
+
+/// Whether a condition, or a part of one, begins behind a token.
+fn begins_condition(kind: Kind) -> bool {
+    matches!(
+        kind,
+        Kind::If | Kind::Elsif | Kind::While | Kind::And | Kind::Or | Kind::Not
+    )
+}
+
+/// Whether a statement ends before a token.
+fn ends_statement(kind: Kind) -> bool {
+    matches!(
+        kind,
+        Kind::Semicolon | Kind::End | Kind::Else | Kind::Elsif | Kind::Until
+    )
+}
+
+/// The mending of `VAR i := 0`: a type for the value.
+pub fn initial_mending(alloc: Global, site: &Site<'_, '_>) -> Result<Option<Mending>, AllocError> {
+    let section = first_of(
+        site.before,
+        &[Kind::Const, Kind::Type, Kind::Var, Kind::Procedure],
+    );
+    let is_value = matches!(kind_or_name(site.here()), Kind::Assign | Kind::Equal)
+        && begins_value(site)
+        && is_kind(site.last(), Kind::Ident)
+        && !declares(site.text, site.tokens, site.word_of(site.last()))
+        && matches!(
+            kind_or_name(site.second()),
+            Kind::Var | Kind::Semicolon | Kind::Comma
+        );
+    match first_of(site.behind, &[Kind::Semicolon]) {
+        Some(end)
+            if is_value
+                && is_kind(section, Kind::Var)
+                && !is_in_body(site.before)
+                && !is_in_parens(site.before) => {
+            let value = site.word_of(site.next());
+            let is_truth = is_same(value, b"TRUE") || is_same(value, b"FALSE");
+            let put: &[u8] = if is_truth { b": BOOLEAN" } else { b": INTEGER" };
+            let taken = end.start.saturating_sub(site.place);
+            if between(site.text, site.place, end.start).contains(&b'\n') {
+                return Ok(None);
+            }
+            worded(alloc, site.place, taken, put, " in its place")
+        }
+        _ => Ok(None),
+    }
+}
+
+/// Whether a value begins behind the place.
+fn begins_value(site: &Site<'_, '_>) -> bool {
+    let word = site.word_of(site.next());
+    is_same(word, b"TRUE")
+        || is_same(word, b"FALSE")
+        || matches!(
+            kind_or_name(site.next()),
+            Kind::Number | Kind::Plus | Kind::Minus | Kind::Not | Kind::LeftParen
+        )
+}
+
+/// The mending of `TYPE T = (a, b)`: constants for the names, where the TYPE stands right before it, and INTEGER.
+pub fn listed_mending(alloc: Global, site: &Site<'_, '_>) -> Result<Option<Mending>, AllocError> {
+    let (Some(open), Some(close)) = (site.here(), first_of(site.behind, &[Kind::RightParen])) else {
+        return Ok(None);
+    };
+    let name = site.second();
+    if open.kind != Kind::LeftParen
+        || !is_kind(site.last(), Kind::Equal)
+        || is_in_body(site.before)
+        || !is_kind(name, Kind::Ident)
+    {
+        return Ok(None);
+    }
+    let section = first_of(site.before, &[Kind::Const, Kind::Type, Kind::Var]);
+    let first = match section {
+        Some(section) => next_behind(site.tokens, section.start),
+        None => None,
+    };
+    match (section, name, first) {
+        (Some(section), Some(name), Some(first))
+            if section.kind == Kind::Type && first.start == name.start => {
+            let put = listed(alloc, site, section, close)?;
+            let taken = close.end.saturating_sub(section.start);
+            worded(alloc, section.start, taken, &put, " in its place")
+        }
+        _ => {
+            let taken = close.end.saturating_sub(open.start);
+            fixed(alloc, open.start, taken, INTEGER)
+        }
+    }
+}
+
+/// The constants that are listed from the place up to the `)`, and their type as an INTEGER.
+fn listed(
+    alloc: Global,
+    site: &Site<'_, '_>,
+    section: Token,
+    close: Token,
+) -> Result<Vec<u8>, AllocError> {
+    let mut put = Vec::new(alloc);
+    if !is_kind(section_before(site, section), Kind::Const) {
+        put.extend_from_slice(b"CONST ")?;
+    }
+    let mut number: usize = 0;
+    for token in site.behind {
+        if token.kind == Kind::Ident && token.start < close.start {
+            let mut buffer = Buffer::new();
+            put.extend_from_slice(site.word_of(Some(*token)))?;
+            put.extend_from_slice(b" = ")?;
+            put.extend_from_slice(buffer.format(number).as_bytes())?;
+            put.extend_from_slice(b"; ")?;
+            number = number.saturating_add(1);
+        }
+    }
+    put.extend_from_slice(b"TYPE ")?;
+    put.extend_from_slice(site.word_of(site.second()))?;
+    put.extend_from_slice(b" = INTEGER")?;
+    Ok(put)
+}
+
+/// The section, the heading or the END before a section.
+fn section_before(site: &Site<'_, '_>, section: Token) -> Option<Token> {
+    for token in site.before {
+        if token.start < section.start
+            && matches!(
+                token.kind,
+                Kind::Const | Kind::Type | Kind::Var | Kind::Procedure | Kind::Module | Kind::End
+            )
+        {
+            return Some(*token);
+        }
+    }
+    None
+}
+
+/// The mending of a parameter without VAR whose type is an array or a record: with VAR, and where its procedure is an export without the `*`,
+/// since an export has none of these.
+pub fn parameter_mending(
+    alloc: Global,
+    site: &Site<'_, '_>,
+) -> Result<Option<Mending>, AllocError> {
+    let Some(first) = first_parameter(site) else {
+        return Ok(None);
+    };
+    let star = match heading_name(site) {
+        Some(name) => next_behind(site.tokens, name.start),
+        None => None,
+    };
+    match star {
+        Some(star) if star.kind == Kind::Times => Ok(Some(Mending {
+            place: first.start,
+            taken: 0,
+            put: Vec::from_slice(alloc, b"VAR ")?,
+            elsewhere: Elsewhere::Moved(star.start, length_of(Some(star))),
+            told: Told::Words("with VAR before the parameter and no * behind the procedure's name"),
+        })),
+        _ => fixed(alloc, first.start, 0, VAR_PARAMETER),
+    }
+}
+
+/// The first name of the parameters whose type stands at the place.
+fn first_parameter(site: &Site<'_, '_>) -> Option<Token> {
+    if !is_kind(site.last(), Kind::Colon) || !is_in_parens(site.before) || is_in_body(site.before) {
+        return None;
+    }
+    let leader = first_of(site.before, &[Kind::LeftParen, Kind::Semicolon])?;
+    let first = next_behind(site.tokens, leader.start)?;
+    match last_before(site.before, first.start) {
+        Some(_) if first.kind == Kind::Ident => Some(first),
+        _ => None,
+    }
+}
