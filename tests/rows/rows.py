@@ -32,7 +32,7 @@ OPENED = re.compile(r"(O2 trap \d), shown in (\w+) at (\d+): (.*)")
 WORD = re.compile(rb"[A-Za-z][A-Za-z0-9_]*")
 NO_MEMORY = b"NoMemory\n"
 # what `explain` says behind the last fault of a module that it tells, where there may be more
-MORE = b"there may be more faults: `check` stops at the first\n"
+MORE = b"there may be more faults behind this one\n"
 
 
 class BadRow(Exception):
