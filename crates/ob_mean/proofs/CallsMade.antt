@@ -20,6 +20,10 @@ use Rattle.ob_mean.proofs.Kept.{kept_where_done}
 pub comes_as : (a b : Outcome) (r : Result ℕ Stop) (store : Store) → a ≡ b → Comes b r store → Comes a r store
 comes_as a b r store h comes = subst (λ o. Comes o r store) (sym h) comes
 
+-- a store that was entered, where it had stayed as it was
+pub entered_behind : (store same entered : Store) (activation : Activation) → entered ≡ same ++ activation ∷ [] → same ≡ store → entered ≡ store ++ activation ∷ []
+entered_behind store same entered activation enters kept = enters ∙ ap (λ s. s ++ activation ∷ []) kept
+
 -- what stops a procedure stops its call
 pub stops_call : (a o : Outcome) (stop : Stop) (store after : Store) → a ≡ left o → Comes o (Err stop) store → Comes a (Err stop) after
 stops_call a o (Stops.Trap k) store after h comes = h ∙ ap left comes

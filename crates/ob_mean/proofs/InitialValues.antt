@@ -104,12 +104,16 @@ module _ (es : List Entry) (table : IsTable es) (t : DataType) (n : ℕ) (is : t
   none_begun h = ap Values.initial (ap (type_in es) is ∙ type_past es n (past es n h))
 
   module _ (e : Entry) (at : Some e ≡ slice_get es n) (parts : Vec Value Global) where
+    pub elements_begun : (size : ℕ) (element : DataType) → e.structure ≡ Array size element →
+        values_in parts.items ≡ Values.copies size (Values.initial (type_in es element)) → value_in (Variants.Parts parts) ≡ Values.initial (type_in es t)
+    elements_begun size element shape made =
+        value_in-parts parts ∙ ap Values.Parts made
+        ∙ sym (ap Values.initial (ap (type_in es) is ∙ type_at es table n e (sym at) ∙ ap (structure_by (types_of es) e.place) shape))
+
     pub array_begun : (size : ℕ) (element : DataType) (first : Value) → e.structure ≡ Array size element →
         values_in parts.items ≡ Values.copies size (value_in first) → value_in first ≡ Values.initial (type_in es element) →
         value_in (Variants.Parts parts) ≡ Values.initial (type_in es t)
-    array_begun size element first shape made begun =
-        value_in-parts parts ∙ ap Values.Parts (made ∙ ap (Values.copies size) begun)
-        ∙ sym (ap Values.initial (ap (type_in es) is ∙ type_at es table n e (sym at) ∙ ap (structure_by (types_of es) e.place) shape))
+    array_begun size element first shape made begun = elements_begun size element shape (made ∙ ap (Values.copies size) begun)
 
     pub record_begun : (fields : List (String Global × DataType)) → entry_by (types_of es) e ≡ Program.Record e.place (fields_by (types_of es) fields) →
         values_in parts.items ≡ Values.initial_fields (fields_by (types_of es) fields) →

@@ -8,7 +8,7 @@ ghost use Rattle.ob_store.specs.Begun.{begun_in};
 ghost use Rattle.ob_mean.specs.Running.{Comes, calls_of};
 ghost use Rattle.ob_mean.specs.Written.{assign_of, choice_of, repeat_of, while_of};
 
-use crate::begun::variables_begun;
+use crate::begun::{begun_activation, end_activation};
 use crate::expressions::evaluate;
 use crate::places::{Stop, all_handed, place_of, set_slot};
 use ob_checked::operators::truth_of;
@@ -216,12 +216,8 @@ fn call(
     let Some(procedure) = context.program.procedures.get(number) else {
         return Ok(turns - 1);
     };
-    let activation = variables_begun(
-        context.alloc,
-        &context.program.types,
-        handed,
-        procedure.variables.as_slice(),
-    )?;
+    let variables = procedure.variables.as_slice();
+    let activation = begun_activation(&context.program.types, store, number, variables, handed)?;
     store.enter(activation)?;
     let within = Context {
         alloc: context.alloc,
@@ -229,6 +225,6 @@ fn call(
         more: context.more - 1,
     };
     let left = run(within, store, procedure.body.as_slice(), turns - 1)?;
-    store.leave();
+    end_activation(store, number, variables);
     Ok(left)
 }

@@ -1,6 +1,6 @@
 //! Places and stores: what each variable stands for while a call runs.
 
-ghost use Rattle.std.specs.Prelude.{◌≡◌, ◌<◌, suc, [], ◌∷◌, ◌++◌, IfOk, OnOk, OnErr, map, take};
+ghost use Rattle.std.specs.Prelude.{◌≡◌, ◌<◌, suc, [], ◌∷◌, ◌++◌, IfOk, OnOk, OnErr, IfSome, length, map, take};
 ghost use Rattle.ob_typing.specs.Program.{Own};
 ghost use Rattle.ob_meaning.specs.ByPositionStore as Stores;
 ghost use Rattle.ob_meaning.specs.ByPositionValue as Values;
@@ -32,13 +32,24 @@ pub enum Held {
     Refers(Place),
 }
 
-/// The module's variables, then the other activations, the one that is running last; and how the module's variables were
-/// when the call began.
+/// How many activations that are over are kept: as many as may run at once.
+const MOST_SPARES: usize = 64;
+
+/// An activation that is over, of the procedure of this number. It says nothing more, but the next one uses its memory.
+#[derive(Drop)]
+struct Spare {
+    number: usize,
+    activation: Vec<Held>,
+}
+
+/// The module's variables, then the other activations, the one that is running last; how the module's variables were when
+/// the call began; and activations that are over.
 #[derive(Drop)]
 pub struct Store {
     variables: Vec<Value>,
     others: Vec<Vec<Held>>,
     before: Before,
+    spares: Vec<Spare>,
 }
 
 /// What a position of an activation has, lent.
@@ -100,6 +111,18 @@ fn put_held(activation: &mut [Held], position: usize, path: &[usize], new: Value
     }
 }
 
+/// The position of a spare activation of the procedure of this number, if there is one.
+fn spare_of(spares: &[Spare], number: usize) -> Option<usize>
+    ensures { IfSome result (λ position. position < length spares.now) }
+{
+    for (position, spare) in spares.iter().enumerate() {
+        if spare.number == number {
+            return Some(position);
+        }
+    }
+    None
+}
+
 impl Held {
     /// What is held, lent.
     fn lend(&self) -> Lent<'_>
@@ -122,6 +145,7 @@ impl Store {
             variables: state.into_values(),
             others,
             before: Before::Writes(Vec::new(alloc)),
+            spares: Vec::new(alloc),
         }
     }
 
@@ -138,12 +162,14 @@ impl Store {
         } = state;
         others.clear();
         writes.clear();
+        let alloc = *values.allocator();
         others.push(results)?;
         others.push(own)?;
         Ok(Store {
             variables: values,
             others,
             before: Before::Writes(writes),
+            spares: Vec::new(alloc),
         })
     }
 
@@ -350,6 +376,33 @@ impl Store {
         ensures begun { begun_in self.new ≡ begun_in self.old }
     {
         self.others.pop();
+    }
+
+    /// The same, and keeps its memory for the next activation of the procedure of this number. Where there is no memory
+    /// to note it, it is dropped.
+    pub fn leave_spare(&mut self, number: usize)
+        ensures left { 0 < Stores.running (store_in self.old)
+            → store_in self.new ≡ take (Stores.running (store_in self.old)) (store_in self.old) }
+        ensures alone { 0 ≡ Stores.running (store_in self.old) → store_in self.new ≡ store_in self.old }
+        ensures begun { begun_in self.new ≡ begun_in self.old }
+    {
+        if let Some(activation) = self.others.pop() {
+            if self.spares.len() >= MOST_SPARES {
+                self.spares.clear();
+            }
+            let _noted = self.spares.push(Spare { number, activation });
+        }
+    }
+
+    /// An activation of the procedure of this number that is over, with what it held; an empty one where none is kept.
+    pub fn spare(&mut self, number: usize) -> Vec<Held>
+        ensures kept { store_in self.new ≡ store_in self.old }
+        ensures begun { begun_in self.new ≡ begun_in self.old }
+    {
+        match spare_of(self.spares.as_slice(), number) {
+            Some(position) => self.spares.swap_remove(position).activation,
+            None => Vec::new(*self.variables.allocator()),
+        }
     }
 
     /// The state of the module, without the other activations.

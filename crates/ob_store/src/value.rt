@@ -1,6 +1,6 @@
 //! Values of variables.
 
-ghost use Rattle.std.specs.Prelude.{◌≡◌, ◌∷◌, IfOk};
+ghost use Rattle.std.specs.Prelude.{◌≡◌, ◌∷◌, IfOk, OnOk, length};
 ghost use Rattle.ob_meaning.specs.ByPositionValue as Values;
 ghost use Rattle.ob_store.specs.View.{value_in, values_in, value_or_zero, put_back};
 
@@ -122,4 +122,64 @@ pub fn copy_all(alloc: Global, values: &[Value]) -> Result<Vec<Value>, AllocErro
         copies.push(copy(alloc, value)?)?;
     }
     Ok(copies)
+}
+
+/// Puts an equal value in the place of another one. Where that has as many parts, no memory is taken.
+#[cycle(overwriting)]
+#[inline]
+pub fn overwrite_with(alloc: Global, target: &mut Value, value: &Value) -> Result<(), AllocError>
+    ensures { OnOk result (value_in target.new ≡ value_in value.now) }
+{
+    match value {
+        Value::Single(scalar) => {
+            *target = Value::Single(*scalar);
+            Ok(())
+        }
+        Value::Parts(parts) => {
+            let old = mem::replace(target, Value::Single(Scalar::Int(0)));
+            *target = Value::Parts(parts_over(alloc, old, parts.as_slice())?);
+            Ok(())
+        }
+    }
+}
+
+/// Parts equal to these, in the memory of a value that has as many.
+#[cycle(overwriting)]
+#[inline(never)]
+fn parts_over(alloc: Global, old: Value, values: &[Value]) -> Result<Vec<Value>, AllocError>
+    ensures { IfOk result (λ vs. values_in vs.items ≡ values_in values.now) }
+{
+    match old {
+        Value::Single(_) => copy_all(alloc, values),
+        Value::Parts(mut parts) => {
+            if parts.len() != values.len() {
+                return copy_all(alloc, values);
+            }
+            overwrite_all(alloc, parts.as_mut_slice(), values)?;
+            Ok(parts)
+        }
+    }
+}
+
+/// Puts equal values in the places of as many others.
+#[cycle(overwriting)]
+#[inline]
+fn overwrite_all(alloc: Global, targets: &mut [Value], values: &[Value]) -> Result<(), AllocError>
+    requires { length targets.old ≡ length values.now }
+    ensures { OnOk result (values_in targets.new ≡ values_in values.now) }
+{
+    for (position, value) in values.iter().enumerate() {
+        overwrite_with(alloc, &mut targets[position], value)?;
+    }
+    Ok(())
+}
+
+/// Puts a value equal to this one in the place of each of others.
+pub fn overwrite_each(alloc: Global, targets: &mut [Value], value: &Value) -> Result<(), AllocError>
+    ensures { OnOk result (values_in targets.new ≡ Values.copies (length targets.old) (value_in value.now)) }
+{
+    for position in 0..targets.len() {
+        overwrite_with(alloc, &mut targets[position], value)?;
+    }
+    Ok(())
 }

@@ -5,9 +5,9 @@ use Rattle.ob_meaning.specs.ByPositionStatements as Statements
 use Rattle.ob_checked.specs.Traps.{trap_number}
 use Rattle.ob_store.specs.View.{store_in, activation_in, variables_in}
 use Rattle.ob_mean.specs.Running.{calls_of}
-use Rattle.ob_mean.proofs.CallsMade.{comes_as, stops_call, procedure_here, call_made, some_behind}
+use Rattle.ob_mean.proofs.CallsMade.{comes_as, entered_behind, stops_call, procedure_here, call_made, some_behind}
 use Rattle.ob_checked.proofs.Rows.{statement_of-if, statement_of-while, statement_of-repeat}
-use Rattle.ob_mean.proofs.Runs.{branch_traps, branch_taken, branches_end, loop_goes, loop_ends, rounds_again, rounds_end, rounds_trap}
+use Rattle.ob_mean.proofs.Runs.{branch_traps, branch_taken, branches_end, loop_goes, loop_ends, rounds_again, rounds_end}
 use Rattle.ob_mean.proofs.Sizes.{size, size_of_all, size_of_branches, turn_of, size_at, branch_at, last_at, body_at, within_less}
 use Rattle.ob_mean.proofs.statements.+running.Goals as goal
 
@@ -17,9 +17,9 @@ call-run-requires t c =
     let p = c.in-Some.procedure.now in
     let here = procedure_here program c.deref.result.now c.args.number p c.deref.ensures.value c.in-Some.ensures.lookup.3.0 c.in-Some.ensures.lookup.1 in
     let small = body_at (program_of program).procedures c.args.number (procedure_of (table_of program.types) p) here in
-    let body = ap (λ ss. size_of_all (statements_in ss)) c.as_slice-2.ensures.value in
+    let body = ap (λ ss. size_of_all (statements_in ss)) c.as_slice.ensures.value in
     let some : 0 < c.args.context.more = omega arith in
-    let b = 2 * size_of_all (statements_in c.as_slice-2.result.now) in
+    let b = 2 * size_of_all (statements_in c.as_slice.result.now) in
     let within : b < turn_of (program_of program) = omega (arith, small, body) in
     let less = within_less c.args.context.more (turn_of (program_of program)) b some within in
     (omega (arith, less), tt)
@@ -30,21 +30,21 @@ call-returns-in_err-left-clause-outcome t c =
     rw (q.1, q.2)
     (stops_call _ _ c.in_err-left.field-0.0 (store_in c.run.new.store) (store_in c.run.new.store)
     (call_made c.args.context.program.now c.deref.result.now c.args.number c.in-Some.procedure.now c.deref.ensures.value c.in-Some.ensures.lookup.3.0 c.in-Some.ensures.lookup.1
-    c.args.context.more c.args.turns (activation_in c.args.handed) (store_in c.args.store.now) (store_in c.enter.new.self) (activation_in c.in_ok-activation.activation) c.as_slice-2.result.now c.as_slice.result.now
-    (omega arith) (omega arith) c.as_slice-2.ensures.value c.as_slice.ensures.value c.in_ok-activation.ensures c.in_ok-enter.ensures.entered)
+    c.args.context.more c.args.turns (activation_in c.args.handed) (store_in c.args.store.now) (store_in c.enter.new.self) (activation_in c.in_ok-activation.activation) c.as_slice.result.now c.as_slice-variables.result.now
+    (omega arith) (omega arith) c.as_slice.ensures.value c.as_slice-variables.ensures.value c.in_ok-activation.ensures.activation (entered_behind _ _ _ (activation_in c.in_ok-activation.activation) c.in_ok-enter.ensures.entered c.begun_activation.ensures.kept))
     c.in_err-left.ensures.outcome)
 
 pub call-returns-clause-outcome : goal.call-returns-clause-outcome
 call-returns-clause-outcome t c =
     call_made c.args.context.program.now c.deref.result.now c.args.number c.in-Some.procedure.now c.deref.ensures.value c.in-Some.ensures.lookup.3.0 c.in-Some.ensures.lookup.1
-    c.args.context.more c.args.turns (activation_in c.args.handed) (store_in c.args.store.now) (store_in c.enter.new.self) (activation_in c.in_ok-activation.activation) c.as_slice-2.result.now c.as_slice.result.now
-    (omega arith) (omega arith) c.as_slice-2.ensures.value c.as_slice.ensures.value c.in_ok-activation.ensures c.in_ok-enter.ensures.entered
+    c.args.context.more c.args.turns (activation_in c.args.handed) (store_in c.args.store.now) (store_in c.enter.new.self) (activation_in c.in_ok-activation.activation) c.as_slice.result.now c.as_slice-variables.result.now
+    (omega arith) (omega arith) c.as_slice.ensures.value c.as_slice-variables.ensures.value c.in_ok-activation.ensures.activation (entered_behind _ _ _ (activation_in c.in_ok-activation.activation) c.in_ok-enter.ensures.entered c.begun_activation.ensures.kept)
     ∙ ap Statements.left c.in_ok-left.ensures.outcome
     ∙ ap (Statements.Done c.in_ok-left.left)
-    (sym (c.leave.ensures.left
-    (some_behind (program_of c.args.context.program.now) (c.args.context.more - 1) (c.args.turns - 1) c.in_ok-left.left (statements_in c.as_slice-2.result.now)
+    (sym (c.end_activation.ensures.left
+    (some_behind (program_of c.args.context.program.now) (c.args.context.more - 1) (c.args.turns - 1) c.in_ok-left.left (statements_in c.as_slice.result.now)
     (variables_in c.args.store.now.variables.items) (activation_in c.in_ok-activation.activation) (map activation_in c.args.store.now.others.items)
-    (store_in c.enter.new.self) (store_in c.run.new.store) c.in_ok-enter.ensures.entered c.in_ok-left.ensures.outcome)))
+    (store_in c.enter.new.self) (store_in c.run.new.store) (entered_behind _ _ _ (activation_in c.in_ok-activation.activation) c.in_ok-enter.ensures.entered c.begun_activation.ensures.kept) c.in_ok-left.ensures.outcome)))
 
 pub choose-returns-in_err-condition-clause-outcome : goal.choose-returns-in_err-condition-clause-outcome
 choose-returns-in_err-condition-clause-outcome t c =
