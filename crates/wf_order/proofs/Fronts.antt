@@ -2,7 +2,7 @@
 use Rattle.std.proofs.Common.{◌≡◌, refl, sym, ap, ◌∙◌, subst, ℕ, ◌+◌, ◌-◌, ◌<◌, ◌≤◌, List, [], ◌∷◌, ◌++◌, length, map, take, get_or, Some, option_map, true, false, arith, ◌⊎◌, inl, inr}
 use Rattle.std.proofs.lemmas.Bool.{cases_lt}
 use Rattle.std.proofs.lemmas.List.{length-take-le}
-use Rattle.std.proofs.lemmas.List.Elements.{Contains-append_left, Contains-push, Contains-push_cases}
+use Rattle.std.proofs.lemmas.List.Elements.{Contains-append_cases, Contains-append_left, Contains-append_right, Contains-push, Contains-push_cases}
 use Rattle.std.proofs.lemmas.Option.{slice_get-map, slice_get_within}
 use Rattle.std.specs.List.{slice_get, Contains}
 use Rattle.ob_interface.specs.Call.{ObjectCall, Reply}
@@ -348,6 +348,36 @@ module _ (history : List (Event ObjectCall Reply)) where
   -- of nothing
   pub farthest_start : IsFarthest history [] 0
   farthest_start = record { all = λ c h. let p = place_of [] c h in let e = p.1 in absurd (cc); one = inl refl }
+
+  -- of one
+  pub farthest_one : (counts : List ℕ) (limit : ℕ) → IsLimit history counts limit → IsFarthest history (counts ∷ []) limit
+  farthest_one counts limit at = record {
+    all = λ x h. elim (Contains-push_cases [] counts x h) [
+      | inl old ↦ let p = place_of [] x old in let e = p.1 in absurd (cc)
+      | inr same ↦ record { limit = limit; is = subst (λ (l : List ℕ). IsLimit history l limit) same at; within = omega arith }
+    ];
+    one = inr (counts, Contains-push [] counts, at);
+  }
+
+  -- of one that is there already
+  pub farthest_again : (taken : List (List ℕ)) (counts : List ℕ) (farthest : ℕ) → Contains taken counts → IsFarthest history (counts ∷ taken) farthest → IsFarthest history taken farthest
+  farthest_again taken counts farthest there h = record {
+    all = λ x at. h.all x (Contains-append_right (counts ∷ []) taken x at);
+    one = elim h.one [
+      | inl zero ↦ inl zero
+      | inr some ↦ inr (
+        some.0,
+        elim (Contains-append_cases (counts ∷ []) taken some.0 some.1) [
+          | inl own ↦ elim (Contains-push_cases [] counts some.0 own) [
+            | inl nothing ↦ let p = place_of [] some.0 nothing in let e = p.1 in absurd (cc)
+            | inr same ↦ subst (λ (l : List ℕ). Contains taken l) same there
+          ]
+          | inr old ↦ old
+        ],
+        some.2,
+      )
+    ];
+  }
 
   -- of one more, which goes farther
   pub farther_new : (taken : List (List ℕ)) (counts : List ℕ) (farthest limit : ℕ) → farthest < limit → IsFarthest history taken farthest → IsLimit history counts limit → IsFarthest history (taken ++ counts ∷ []) limit

@@ -1,5 +1,5 @@
 -- What the limit says of the calls that may be taken.
-use Rattle.std.proofs.Common.{◌≡◌, refl, sym, ap, ◌∙◌, subst, ℕ, ◌+◌, ◌-◌, ◌<◌, ◌≤◌, List, length, get_or, min, Option, Some, None, arith, ◌⊎◌, inl, inr}
+use Rattle.std.proofs.Common.{◌≡◌, refl, sym, ap, ◌∙◌, subst, ℕ, zero, suc, ◌+◌, ◌-◌, ◌<◌, ◌≤◌, List, length, get_or, min, Option, Some, None, arith, ◌⊎◌, inl, inr}
 use Rattle.std.proofs.lemmas.Bool.{cases_eq, cases_lt}
 use Rattle.std.proofs.lemmas.Option.{same_Some, slice_get_within}
 use Rattle.std.specs.List.{slice_get}
@@ -11,6 +11,7 @@ use Rattle.wf_history.proofs.Once.{one_begin, one_end}
 use Rattle.wf_history.proofs.Positions.{place_of, contains_at, one_item, same_call}
 use Rattle.wf_order.specs.declared.rows.Ended.{Ended}
 use Rattle.wf_order.specs.declared.rows.Rows.{Rows}
+use Rattle.wf_order.specs.Fronts.{IsWithin}
 use Rattle.wf_order.specs.Rows.{AreRows, call_at, ended_rows, row_of}
 use Rattle.wf_order.specs.Steps.{IsTaken, IsLimit, IsDone}
 use Rattle.wf_order.proofs.Places.{before_at, places_before, ends_in_turn}
@@ -101,6 +102,19 @@ module _ (rows : Rows) (counts : List ℕ) where
     ];
   }
 
+  -- there is one
+  least_with : (p limit : ℕ) → IsLeastEnd p limit → (o : Option Ended) → slice_get (row_of (ended_rows rows) p) (get_or counts p 0) ≡ o → (least : ℕ) × IsLeastEnd (p + 1) least
+  least_with p limit h None at = (limit, least_kept p limit h at)
+  least_with p limit h (Some end) at = (min limit end.place, least_more p limit (min limit end.place) end h at refl)
+
+  some_least : (p : ℕ) → (least : ℕ) × IsLeastEnd p least
+  some_least zero = (rows.events, least_start)
+  some_least (suc p) =
+      let h = some_least p in
+      let more = least_with p h.0 h.1 (slice_get (row_of (ended_rows rows) p) (get_or counts p 0)) refl in
+      let next : p + 1 ≡ suc p = omega arith in
+      (more.0, subst (λ (n : ℕ). IsLeastEnd n more.0) next more.1)
+
   module _ (history : List (Event ObjectCall Reply)) (are : AreRows history (length counts) rows) (limit : ℕ) (least : IsLeastEnd (length counts) limit) where
     taken_below : (a : CallId) (reply : Reply) (place : ℕ) → slice_get history place ≡ Some (End a reply) → place < limit → IsTaken counts a
     taken_below a reply place at lt =
@@ -140,3 +154,10 @@ module _ (rows : Rows) (counts : List ℕ) where
 
     pub limit_is : IsLimit history counts limit
     limit_is = record { within = let w = least.within in let size = are.events in omega (arith, w, size); taken = taken_below; first = first_at }
+
+  -- where a next call ends at a place or before it, the limit is no farther
+  pub limit_within : (history : List (Event ObjectCall Reply)) → AreRows history (length counts) rows → (q : ℕ) (end : Ended) (place : ℕ) → q < length counts → IsNextEnd q end → end.place ≤ place → IsWithin history counts place
+  limit_within history are q end place inside next le =
+      let least = some_least (length counts) in
+      let less = least.1.less q end inside next in
+      record { limit = least.0; is = limit_is history are least.0 least.1; within = omega (arith, less, le) }

@@ -4,7 +4,6 @@ ghost use Rattle.std.specs.Prelude.{◌≡◌, ◌<◌, ◌≤◌, ◌+◌, ℕ,
 ghost use Rattle.ob_interface.specs.Call.{ObjectCall, Reply};
 ghost use Rattle.wf_history.specs.History.{Event};
 ghost use Rattle.wf_order.specs.MadeCalls.{AreMade};
-ghost use Rattle.wf_order.specs.Rules.{AreIdle};
 ghost use Rattle.wf_order.specs.Search.{found_in, AreAllAnswered, AreAnswered, AreCovered, HasNoStep, IsAt, IsChoice, IsNextStep, IsTry, IsWorded};
 ghost use Rattle.wf_order.specs.Steps.{Configuration};
 ghost use Rattle.wf_order.specs.Turns.{IsNextOf, ReachFrom};
@@ -13,11 +12,11 @@ use crate::behind::is_behind;
 use crate::made_calls::{MadeCalls, replies_otherwise, replies_so};
 use crate::next_call::{Next, Turn, first_turn, next_of, turns_from};
 use crate::searched_object::Object;
-use crate::seen::Seen;
 use crate::sooner::{Spot, is_sooner};
 use crate::step::{Here, Silent, Task, any_silent_step, step_by};
 use crate::without::unless_left_out;
 use ob_interface::NoMemory;
+use smallvec::SmallVec;
 use wf_history::SeenReply;
 
 /// A process whose next call is tried, the state that it leads to, and the place behind its begin.
@@ -56,18 +55,6 @@ fn is_unfit<'a, O: Object>(
     Ok(true)
 }
 
-/// Whether a next call never ends, and leaves each state as it is.
-fn is_idle<O: Object>(task: &Task<O>, here: &Here<O::State>, next: &Next) -> bool
-    requires { IsNextOf task.now.rows.now here.now.found.now.counts.items next.now }
-    ensures { (history : List (Event ObjectCall Reply)) → IsAt history task.now.rows.now here.now → IsTrue result
-        → AreIdle (O.effect task.now.object.now) history (found_in O.meaning here.now.found.now) next.now.process }
-{
-    let None = next.ended else {
-        return false;
-    };
-    task.object.is_reader(next.begun.call)
-}
-
 /// Whether a next call ends with values, so that its reply mostly fits in few states.
 fn ends_with_values(next: &Next) -> bool {
     let Some(end) = next.ended else {
@@ -79,14 +66,12 @@ fn ends_with_values(next: &Next) -> bool {
     }
 }
 
-/// The state that a next call leads to, where it is to be tried. In a hard search, of which this was found, it looks closer
-/// at open calls.
+/// The state that a next call leads to, where it is to be tried. In a hard search it looks closer at open calls.
 fn tried<'a, O: Object>(
     task: &Task<'_, 'a, O>,
     here: &Here<O::State>,
     next: &Next<'a>,
     calls: &mut MadeCalls<'a, O::State>,
-    hard: Option<&Seen<O::State>>,
 ) -> Result<Option<O::State>, NoMemory>
     requires next { IsNextOf task.now.rows.now here.now.found.now.counts.items next.now }
     requires worded { IsWorded O.meaning O.words_of here.now.found.now }
@@ -99,8 +84,11 @@ fn tried<'a, O: Object>(
     if is_unfit(task, here, next, calls)? {
         return Ok(None);
     }
-    if is_idle(task, here, next) {
-        return Ok(None);
+    // What never ends, and leaves each state as it is, need not be tried.
+    if next.ended.is_none() {
+        if task.object.is_reader(next.begun.call) {
+            return Ok(None);
+        }
     }
     // Where its values mostly don't fit, no equal call is looked for before that is known.
     let fits_rarely = ends_with_values(next);
@@ -117,10 +105,11 @@ fn tried<'a, O: Object>(
             return Ok(None);
         }
     }
-    match hard {
-        None => Ok(Some(state)),
-        Some(seen) => unless_left_out(task, here, seen, next.process, state),
+    // What has ended is never left out.
+    if next.ended.is_some() {
+        return Ok(Some(state));
     }
+    unless_left_out(task, here, next.process, state, calls)
 }
 
 /// Whether a next call need not be tried beside another one that is: it is equal and ends later, or is known to have another reply here.
@@ -145,14 +134,14 @@ fn is_dropped<O: Object>(
         return false;
     };
     let place = *count as usize;
-    if is_sooner(
-        task.rows,
-        here.limit,
-        Spot { process, place },
-        next.begun,
-        end,
-    ) {
-        return true;
+    let taken = here.found.counts.get(next.process).copied().unwrap_or(0);
+    let looks = task.hints.at(next.process, taken as usize).looks;
+    // Equal calls with the same reply look alike.
+    if task.hints.at(process, place).looks == looks {
+        let first = Spot { process, place };
+        if is_sooner(task.rows, here.limit, first, next.begun, end) {
+            return true;
+        }
     }
     replies_otherwise(here.found, next.begun.call, end.reply, calls)
 }
@@ -196,7 +185,6 @@ fn next_attempt<'a, O: Object>(
     task: &Task<'_, 'a, O>,
     here: &Here<O::State>,
     from: usize,
-    hard: Option<&Seen<O::State>>,
     calls: &mut MadeCalls<'a, O::State>,
 ) -> Result<Option<Attempt<O::State>>, NoMemory>
     requires worded { IsWorded O.meaning O.words_of here.now.found.now }
@@ -208,7 +196,8 @@ fn next_attempt<'a, O: Object>(
     ensures within { IfOk result (λ o. IfSome o (λ a. a.process < length here.now.found.now.counts.items)) }
 {
     let limit = here.limit;
-    let turns = turns_from(task.alloc, task.rows, &here.found.counts, from, limit)?;
+    let mut turns = SmallVec::new(task.alloc);
+    turns_from(&mut turns, task.rows, &here.found.counts, from, limit)?;
     let mut start = from;
     while start < limit {
         let turn = first_turn(turns.as_slice(), start, limit);
@@ -218,7 +207,7 @@ fn next_attempt<'a, O: Object>(
         let Some(call) = next_of(task.rows, &here.found.counts, turn.process) else {
             unreachable!()
         };
-        match tried(task, here, &call, calls, hard)? {
+        match tried(task, here, &call, calls)? {
             Some(state) => {
                 return Ok(Some(Attempt {
                     next: next_place(task, here, turns.as_slice(), &call, calls),
@@ -238,7 +227,6 @@ pub(crate) fn chosen<'a, O: Object>(
     task: &Task<'_, 'a, O>,
     here: &Here<O::State>,
     from: usize,
-    hard: Option<&Seen<O::State>>,
     calls: &mut MadeCalls<'a, O::State>,
 ) -> Result<Option<Attempt<O::State>>, NoMemory>
     requires worded { IsWorded O.meaning O.words_of here.now.found.now }
@@ -250,7 +238,7 @@ pub(crate) fn chosen<'a, O: Object>(
     ensures within { IfOk result (λ o. IfSome o (λ a. a.process < length here.now.found.now.counts.items)) }
 {
     if from > 0 {
-        return next_attempt(task, here, from, hard, calls);
+        return next_attempt(task, here, from, calls);
     }
     match any_silent_step(task, here)? {
         Silent::Step(process, state) => Ok(Some(Attempt {
@@ -258,6 +246,6 @@ pub(crate) fn chosen<'a, O: Object>(
             process,
             state,
         })),
-        Silent::Never => next_attempt(task, here, from, hard, calls),
+        Silent::Never => next_attempt(task, here, from, calls),
     }
 }

@@ -5,7 +5,39 @@ ghost use Rattle.ob_interface.specs.View.{reply_of};
 ghost use Rattle.wf_history.specs.View.{seen_call, seen_reply};
 
 use ob_interface::call::Reply;
+use ob_interface::scalar::Scalar;
+use wf_history::kept_scalars::KeptScalars;
 use wf_history::{SeenCall, SeenReply};
+
+/// Whether lists of scalars are the same. Mostly both have one.
+#[inline(always)]
+fn are_equal(items: &[Scalar], others: &[Scalar]) -> bool
+    ensures { IsTrue result ↔ (items.now ≡ others.now) }
+{
+    match (items, others) {
+        ([item], [other]) => item == other,
+        _ => items == others,
+    }
+}
+
+/// Whether kept scalars are the same. Mostly there are none.
+#[inline(always)]
+fn are_same(kept: &KeptScalars, other: &KeptScalars) -> bool
+    ensures { IsTrue result → kept.now.items ≡ other.now.items }
+{
+    if kept.is_empty() {
+        return other.is_empty();
+    }
+    are_same_lent(kept, other)
+}
+
+/// The same, where there are some. It stands apart, so that it takes no room where there are none.
+#[inline(never)]
+fn are_same_lent(kept: &KeptScalars, other: &KeptScalars) -> bool
+    ensures { IsTrue result → kept.now.items ≡ other.now.items }
+{
+    are_equal(kept.lent().as_slice(), other.lent().as_slice())
+}
 
 /// Whether a reply is that of the history.
 pub fn is_same_reply(reply: &Reply, other: SeenReply) -> bool
@@ -13,7 +45,7 @@ pub fn is_same_reply(reply: &Reply, other: SeenReply) -> bool
 {
     match (reply, other) {
         (Reply::Done(values), SeenReply::Done(others)) => {
-            values.as_slice() == others.lent().as_slice()
+            are_equal(values.as_slice(), others.lent().as_slice())
         }
         (Reply::Trap(number), SeenReply::Trap(other)) => *number == other,
         _ => false,
@@ -21,21 +53,21 @@ pub fn is_same_reply(reply: &Reply, other: SeenReply) -> bool
 }
 
 /// Whether two replies of a history are the same.
+#[inline(always)]
 pub(crate) fn are_same_replies(reply: SeenReply, other: SeenReply) -> bool
     ensures { IsTrue result → seen_reply reply.entry ≡ seen_reply other.entry }
 {
     match (reply, other) {
-        (SeenReply::Done(values), SeenReply::Done(others)) => {
-            values.lent().as_slice() == others.lent().as_slice()
-        }
+        (SeenReply::Done(values), SeenReply::Done(others)) => are_same(values, others),
         (SeenReply::Trap(number), SeenReply::Trap(other)) => number == other,
         _ => false,
     }
 }
 
 /// Whether two calls of a history are the same.
+#[inline(always)]
 pub(crate) fn is_same_call(call: SeenCall, other: SeenCall) -> bool
     ensures { IsTrue result → seen_call call.entry ≡ seen_call other.entry }
 {
-    call.proc == other.proc && call.args.lent().as_slice() == other.args.lent().as_slice()
+    call.proc == other.proc && are_same(call.args, other.args)
 }

@@ -1,12 +1,12 @@
 //! What a search that found no order of all events tells of the first events.
 
-ghost use Rattle.std.specs.Prelude.{ℕ, List, map, false, IfOk, IsTrue};
+ghost use Rattle.std.specs.Prelude.{ℕ, List, length, map, false, IfOk, IsTrue};
 ghost use Rattle.ob_interface.specs.Call.{ObjectCall, Reply};
 ghost use Rattle.wf_history.specs.History.{Event as AnyEvent};
 ghost use Rattle.wf_history.specs.View.{event_of};
 ghost use Rattle.wf_order.specs.Rows.{AreRows};
 ghost use Rattle.wf_order.specs.Search.{all_counts, all_found, AreWorded, IsGrown, IsLed, IsSearch};
-ghost use Rattle.wf_order.specs.Fronts.{AreFramed, AreSized, EndsBefore, IsFarthest, IsFound};
+ghost use Rattle.wf_order.specs.Fronts.{AreFramed, AreSized, EndsBefore, IsFarthest, IsFound, IsWithin};
 ghost use Rattle.wf_order.specs.Steps.{start_at};
 
 use crate::made_calls::no_calls;
@@ -30,14 +30,35 @@ pub(crate) enum Front {
     Unknown,
 }
 
+/// Whether the next call of no process ends at a place or before it.
+fn goes_farther(rows: &Rows, counts: &[u32], place: usize) -> bool
+    ensures { ¬ IsTrue result → (history : List (AnyEvent ObjectCall Reply)) → AreRows history (length counts.now) rows.now → IsWithin history counts.now place }
+{
+    for (process, count) in counts.iter().enumerate() {
+        if let Some(end) = rows.ended_at(process, *count as usize) {
+            if end.place <= place {
+                return false;
+            }
+        }
+    }
+    true
+}
+
 /// The farthest place to which a configuration goes that was found: all that ends before it is taken there.
 pub(crate) fn farthest_of<S>(rows: &Rows, seen: &Seen<S>) -> usize
     ensures { (history : List (AnyEvent ObjectCall Reply)) (processes : ℕ) → AreRows history processes rows.now → AreSized processes (all_counts seen.now)
         → IsFarthest history (all_counts seen.now) result }
 {
     let all = seen.as_slice();
-    let mut farthest = 0;
+    let Some(last) = all.last() else {
+        return 0;
+    };
+    // Where nothing is tried on the way, the last one goes as far as any.
+    let mut farthest = limit_of(rows, &last.counts);
     for found in all {
+        if !goes_farther(rows, &found.counts, farthest) {
+            continue;
+        }
         let limit = limit_of(rows, &found.counts);
         if limit > farthest {
             farthest = limit;

@@ -1,6 +1,6 @@
 //! Calls that were made, so that few are made twice.
 
-ghost use Rattle.std.specs.Prelude.{◌≡◌, ◌<◌, Some, None, get_or, replicate, IfOk, IfSome, OnOk, IsTrue, option_copied, option_map, slice_set, vec_len};
+ghost use Rattle.std.specs.Prelude.{◌≡◌, ◌<◌, Some, None, get_or, replicate, IfOk, IfSome, OnOk, IsTrue, option_copied, option_map};
 ghost use Rattle.ob_interface.specs.View.{reply_of};
 ghost use Rattle.wf_history.specs.View.{seen_call, seen_reply};
 ghost use Rattle.wf_order.specs.MadeCalls.{AreMade, HasMade, IsAsked, StandsAt, IsOtherwise};
@@ -56,6 +56,9 @@ pub(crate) fn number_of(scalar: Scalar) -> u64 {
 /// The words of a state as a number.
 fn number_of_words(words: &[u64]) -> u64 {
     let mut number = 0_u64;
+    if let [word] = words {
+        return *word;
+    }
     for word in words {
         number = number.wrapping_mul(31).wrapping_add(*word);
     }
@@ -63,14 +66,18 @@ fn number_of_words(words: &[u64]) -> u64 {
 }
 
 /// The row of a call on the state with these words.
+#[inline(always)]
 fn row_of(words: &[u64], call: SeenCall) -> usize
     ensures { result < 64 }
 {
     let mut number = number_of_words(words)
         .wrapping_mul(31)
         .wrapping_add(call.proc as u64);
-    for scalar in call.args.lent().as_slice() {
-        number = number.wrapping_mul(31).wrapping_add(number_of(*scalar));
+    // Mostly there are no arguments.
+    if !call.args.is_empty() {
+        for scalar in call.args.lent().as_slice() {
+            number = number.wrapping_mul(31).wrapping_add(number_of(*scalar));
+        }
     }
     (number.wrapping_mul(SPREAD) >> 58) as usize % ROWS
 }
@@ -99,15 +106,19 @@ fn made_at<'c, 'a, S>(calls: &'c MadeCalls<'a, S>, row: usize) -> Option<&'c Mad
     }
 }
 
-/// Has a call stand at a row.
-fn put<'a, S: Drop>(calls: &mut MadeCalls<'a, S>, row: usize, made: MadeCall<'a, S>)
-    requires { row < vec_len calls.old.rows }
-    ensures { calls.new.rows.items ≡ slice_set calls.old.rows.items row (Some made.entry) }
+/// Whether these are the words of a state. Mostly there is one.
+#[inline(always)]
+fn are_words(words: &[u64], others: &[u64]) -> bool
+    ensures { IsTrue result → words.now ≡ others.now }
 {
-    calls.rows[row] = Some(made);
+    match (words, others) {
+        ([word], [other]) => word == other,
+        _ => words == others,
+    }
 }
 
 /// What stands at a row, if it is this call on the state with these words.
+#[inline(always)]
 fn found_at<'c, 'a, S>(
     calls: &'c MadeCalls<'a, S>,
     row: usize,
@@ -117,7 +128,10 @@ fn found_at<'c, 'a, S>(
     ensures { IfSome result (λ made. StandsAt calls.now row words.now (seen_call call.entry) made.now) }
 {
     let made = made_at(calls, row)?;
-    if made.words.as_slice() != words || !is_same_call(made.call, call) {
+    if !are_words(made.words.as_slice(), words) {
+        return None;
+    }
+    if !is_same_call(made.call, call) {
         return None;
     }
     Some(made)
@@ -140,16 +154,35 @@ fn row_with<'a, O: Object>(
     if let Some(_made) = found_at(calls, row, words, call) {
         return Ok((row, true));
     }
+    make_at(task, found, call, row, calls)?;
+    Ok((row, false))
+}
+
+/// Makes a call on a configuration's state, and has it stand at a row. It stands apart, so that a call that was made takes no room for it.
+#[inline(never)]
+fn make_at<'a, O: Object>(
+    task: &Task<'_, 'a, O>,
+    found: &Found<O::State>,
+    call: SeenCall<'a>,
+    row: usize,
+    calls: &mut MadeCalls<'a, O::State>,
+) -> Result<(), NoMemory>
+    requires within { row < 64 }
+    requires worded { IsWorded O.meaning O.words_of found.now }
+    requires made { AreMade O.meaning O.words_of (O.effect task.now.object.now) calls.old }
+    ensures made { OnOk result (AreMade O.meaning O.words_of (O.effect task.now.object.now) calls.new) }
+    ensures there { OnOk result (HasMade O.meaning O.words_of (O.effect task.now.object.now) calls.new row (seen_call call.entry) (O.meaning found.now.state)) }
+{
     let (state, reply) = task.object.apply(task.alloc, &found.state, call)?;
-    let words = SmallVec::from_slice(task.alloc, words)?;
+    let words = SmallVec::from_slice(task.alloc, found.words.as_slice())?;
     let made = MadeCall {
         words,
         call,
         state,
         reply,
     };
-    put(calls, row, made);
-    Ok((row, false))
+    calls.rows[row] = Some(made);
+    Ok(())
 }
 
 /// Whether a call has this reply in a configuration's state.
@@ -191,17 +224,6 @@ pub(crate) fn replies_otherwise<S>(
     true
 }
 
-/// Counts a call that writes, and was made before or in vain.
-fn count<S>(calls: &mut MadeCalls<S>, was_there: bool)
-    ensures { calls.new.rows.items ≡ calls.old.rows.items }
-{
-    calls.left = if was_there {
-        calls.left.saturating_add(1)
-    } else {
-        calls.left.saturating_sub(1)
-    };
-}
-
 /// What a call makes of a configuration's state, where its reply is the one that is known, if one is. Where few such calls had been made, none is
 /// looked up.
 pub(crate) fn outcome<'a, O: Object>(
@@ -220,7 +242,11 @@ pub(crate) fn outcome<'a, O: Object>(
         return task.object.outcome(task.alloc, &found.state, call, known);
     }
     let (row, was_there) = row_with(task, found, call, calls)?;
-    count(calls, was_there);
+    calls.left = if was_there {
+        calls.left.saturating_add(1)
+    } else {
+        calls.left.saturating_sub(1)
+    };
     let Some(made) = made_at(calls, row) else {
         unreachable!()
     };

@@ -1,12 +1,11 @@
 //! Which call of a configuration is tried next: the one that begins first.
 
-ghost use Rattle.std.specs.Prelude.{◌≡◌, IfOk, MatchOption, length};
+ghost use Rattle.std.specs.Prelude.{◌≡◌, [], OnOk, MatchOption, length};
 ghost use Rattle.wf_order.specs.Turns.{AreTurns, HasNone, IsFirstIn, IsNextOf};
 
 use crate::rows::{Begun, Ended, Rows};
 use ob_interface::NoMemory;
 use smallvec::SmallVec;
-use std::alloc::Global;
 
 /// The next call of a process, and its end, where it ends.
 #[derive(Clone, Copy)]
@@ -37,17 +36,17 @@ pub(crate) struct Turn {
     pub place: usize,
 }
 
-/// The next calls that begin at a place or behind it, and before the limit.
+/// Puts the next calls that begin at a place or behind it, and before the limit, into a list without items.
 pub(crate) fn turns_from(
-    alloc: Global,
+    turns: &mut SmallVec<Turn, 8>,
     rows: &Rows,
     counts: &[u32],
     from: usize,
     limit: usize,
-) -> Result<SmallVec<Turn, 8>, NoMemory>
-    ensures { IfOk result (λ turns. AreTurns rows.now counts.now (length counts.now) from limit turns.items) }
+) -> Result<(), NoMemory>
+    requires { turns.old.items ≡ [] }
+    ensures { OnOk result (AreTurns rows.now counts.now (length counts.now) from limit turns.new.items) }
 {
-    let mut turns = SmallVec::new(alloc);
     for (process, count) in counts.iter().enumerate() {
         let Some(begun) = rows.begun_at(process, *count as usize) else {
             continue;
@@ -57,7 +56,7 @@ pub(crate) fn turns_from(
             turns.push(Turn { process, place })?;
         }
     }
-    Ok(turns)
+    Ok(())
 }
 
 /// Of these calls the one that begins first, at a place or behind it. Where there is none, the place is the limit.

@@ -1,6 +1,6 @@
 //! Calls that only read, passed over: such a call comes as soon as it may be taken with its reply, and what lies before it is not kept.
 
-ghost use Rattle.std.specs.Prelude.{List, length, IfOk, IfSome, IsTrue, OnOk};
+ghost use Rattle.std.specs.Prelude.{List, length, IfOk, IfSome, OnOk};
 ghost use Rattle.ob_interface.specs.Call.{ObjectCall, Reply};
 ghost use Rattle.wf_history.specs.History.{Event};
 ghost use Rattle.wf_order.specs.MadeCalls.{AreMade};
@@ -16,30 +16,6 @@ use crate::seen::Found;
 use crate::step::{Here, Task, ended_call, take_next};
 use ob_interface::NoMemory;
 use wf_history::CallId;
-
-/// Whether the next call of a process only reads, and may be taken with its reply.
-fn reads_here<'a, O: Object>(
-    task: &Task<'_, 'a, O>,
-    here: &Here<O::State>,
-    process: usize,
-    calls: &mut MadeCalls<'a, O::State>,
-) -> Result<bool, NoMemory>
-    requires worded { IsWorded O.meaning O.words_of here.now.found.now }
-    requires made { AreMade O.meaning O.words_of (O.effect task.now.object.now) calls.old }
-    ensures made { OnOk result (AreMade O.meaning O.words_of (O.effect task.now.object.now) calls.new) }
-    ensures next { IfOk result (λ reads. IsTrue reads → HasNext task.now.rows.now here.now.found.now.counts.items process) }
-    ensures reads { (history : List (Event ObjectCall Reply)) → IsAt history task.now.rows.now here.now
-        → IfOk result (λ reads. IsTrue reads → IsReadingNext (O.effect task.now.object.now) history (found_in O.meaning here.now.found.now) process) }
-{
-    let Some((begun, end)) = ended_call(task, here, process) else {
-        return Ok(false);
-    };
-    if !task.object.is_reader(begun.call) {
-        return Ok(false);
-    }
-    let reads = replies_so(task, here.found, begun.call, end.reply, calls)?;
-    Ok(reads)
-}
 
 /// The first process, of this one and those behind it, whose next call only reads, and may be taken with its reply.
 fn reader_at<'a, O: Object>(
@@ -60,7 +36,14 @@ fn reader_at<'a, O: Object>(
         if task.hints.at(process, counts[process] as usize).quiet as usize >= here.limit {
             continue;
         }
-        if reads_here(task, here, process, calls)? {
+        let Some((begun, end)) = ended_call(task, here, process) else {
+            continue;
+        };
+        if !task.object.is_reader(begun.call) {
+            continue;
+        }
+        let reads = replies_so(task, here.found, begun.call, end.reply, calls)?;
+        if reads {
             return Ok(Some(process));
         }
     }
@@ -92,6 +75,7 @@ pub(crate) fn passed<'a, O: Object>(
         &Here {
             found: &*there,
             limit,
+            hard: None,
         },
         from,
         calls,

@@ -93,7 +93,56 @@ fn arrive<O: Object>(
     Ok(None)
 }
 
-/// Tries a silent call or else the next call of the frame that was on top of the stack: a legal order, if one is found.
+/// Tries a silent call or else the next call of the frame that was on top of the stack: a legal order, if one is found. It stands apart, so that
+/// a frame of which nothing is left takes no room for it.
+#[inline(never)]
+fn advance_from<'a, O: Object>(
+    task: &Task<'_, 'a, O>,
+    seen: &mut Seen<O::State>,
+    stack: &mut Vec<Frame>,
+    frame: Frame,
+    calls: &mut MadeCalls<'a, O::State>,
+) -> Result<Option<Vec<CallId>>, NoMemory>
+    requires left { frame.next < task.now.rows.now.events }
+    requires place { frame.place < index_set_len seen.old }
+    requires worded { AreWorded O.meaning O.words_of seen.old }
+    requires made { AreMade O.meaning O.words_of (O.effect task.now.object.now) calls.old }
+    ensures made { OnOk result (AreMade O.meaning O.words_of (O.effect task.now.object.now) calls.new) }
+    ensures search { (history : List (Event ObjectCall Reply)) (processes : ℕ) (exact : Bool) (start : Configuration O.Meaning) → AreRows history processes task.now.rows.now
+        → IsSearch (O.effect task.now.object.now) history processes (IsLed (O.effect task.now.object.now) history exact start) start (all_found O.meaning seen.old) (stack.old.items ++ frame ∷ [])
+        → IfOk result (λ to. MatchOption to
+        (IsSearch (O.effect task.now.object.now) history processes (IsLed (O.effect task.now.object.now) history exact start) start (all_found O.meaning seen.new) stack.new.items
+        × (work processes task.now.rows.now (all_found O.meaning seen.new) stack.new.items < work processes task.now.rows.now (all_found O.meaning seen.old) (stack.old.items ++ frame ∷ [])))
+        (λ order. (end : Configuration O.Meaning) × IsLed (O.effect task.now.object.now) history exact start order.items end × IsDone (O.effect task.now.object.now) history end)) }
+    ensures worded { IfOk result (λ to. AreWorded O.meaning O.words_of seen.new) }
+    ensures one_more { IfOk result (λ to. index_set_len seen.new ≤ index_set_len seen.old + 1) }
+    ensures grown { IfOk result (λ to. IsGrown seen.old.keys seen.new.keys) }
+{
+    // A search is hard where it has come back to a configuration, or has found more than two for each call on its way.
+    let is_hard = frame.next > 0 || seen.len() / 2 > stack.len();
+    let here = Here {
+        found: &seen[frame.place],
+        limit: frame.limit,
+        hard: is_hard.then_some(&*seen),
+    };
+    let Some(attempt) = chosen(task, &here, frame.next, calls)? else {
+        return Ok(None);
+    };
+    let Attempt {
+        next,
+        process,
+        state,
+    } = attempt;
+    let (id, mut there) = one_more(task, &here.found.counts, process, state)?;
+    stack.push(Frame { next, id, ..frame })?;
+    let limit = next_limit(task.rows, &there.counts, id, frame.limit);
+    let limit = passed(task, stack, Frame { limit, ..frame }, &mut there, calls)?;
+    let arrived = arrive(task, seen, stack, there, limit)?;
+    Ok(arrived)
+}
+
+/// Tries what is left to be tried of the frame that was on top of the stack: a legal order, if one is found.
+#[inline(always)]
 pub(crate) fn advance<'a, O: Object>(
     task: &Task<'_, 'a, O>,
     seen: &mut Seen<O::State>,
@@ -115,31 +164,11 @@ pub(crate) fn advance<'a, O: Object>(
     ensures one_more { IfOk result (λ to. index_set_len seen.new ≤ index_set_len seen.old + 1) }
     ensures grown { IfOk result (λ to. IsGrown seen.old.keys seen.new.keys) }
 {
-    // Nothing is left to be tried, as of the frame of a call that was passed over.
+    // Of the frame of a call that was passed over nothing is.
     if frame.next >= task.rows.events {
         return Ok(None);
     }
-    let here = Here {
-        found: &seen[frame.place],
-        limit: frame.limit,
-    };
-    // A search is hard where it has come back to a configuration, or has found more than two for each call on its way.
-    let is_hard = frame.next > 0 || seen.len() / 2 > stack.len();
-    let hard = is_hard.then_some(&*seen);
-    let Some(attempt) = chosen(task, &here, frame.next, hard, calls)? else {
-        return Ok(None);
-    };
-    let Attempt {
-        next,
-        process,
-        state,
-    } = attempt;
-    let (id, mut there) = one_more(task, &here.found.counts, process, state)?;
-    stack.push(Frame { next, id, ..frame })?;
-    let limit = next_limit(task.rows, &there.counts, id, frame.limit);
-    let limit = passed(task, stack, Frame { limit, ..frame }, &mut there, calls)?;
-    let arrived = arrive(task, seen, stack, there, limit)?;
-    Ok(arrived)
+    advance_from(task, seen, stack, frame, calls)
 }
 
 /// The configuration in which no call of so many processes is taken.

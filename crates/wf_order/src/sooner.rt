@@ -4,7 +4,7 @@ ghost use Rattle.std.specs.Prelude.{◌≡◌, ◌<◌, ℕ, List, length, get_o
 ghost use Rattle.ob_interface.specs.Call.{ObjectCall, Reply};
 ghost use Rattle.wf_history.specs.History.{Event};
 ghost use Rattle.wf_order.specs.Rows.{AreAt, AreRows, call_at};
-ghost use Rattle.wf_order.specs.Rules.{ComesFirst, AreAlike, HasSooner};
+ghost use Rattle.wf_order.specs.Rules.{AreAlike, HasSooner};
 ghost use Rattle.wf_order.specs.Search.{IsAt};
 ghost use Rattle.wf_order.specs.Steps.{IsLimit};
 ghost use Rattle.wf_order.specs.Turns.{IsNextOf};
@@ -22,24 +22,8 @@ pub(crate) struct Spot {
     pub place: usize,
 }
 
-/// Whether the first call ends before the other one, which may be open; or both are open, and the first is of the smaller
-/// process.
-fn comes_first(rows: &Rows, first: Spot, other: Spot) -> bool
-    ensures { (history : List (Event ObjectCall Reply)) (processes : ℕ) → AreRows history processes rows.now
-        → IsTrue result → ComesFirst history (call_at first.process first.place) (call_at other.process other.place) }
-{
-    match (
-        rows.ended_at(first.process, first.place),
-        rows.ended_at(other.process, other.place),
-    ) {
-        (Some(end), Some(later)) => end.place < later.place,
-        (Some(_), None) => true,
-        (None, Some(_)) => false,
-        (None, None) => first.process < other.process,
-    }
-}
-
-/// Whether two calls are equal, and the first one comes first.
+/// Whether two calls are equal, and the first one comes first: it ends before the other one, which may be open; or both are open, and the
+/// first is of the smaller process.
 pub(crate) fn are_alike(rows: &Rows, first: Spot, other: Spot) -> bool
     ensures { (history : List (Event ObjectCall Reply)) (processes : ℕ) → AreRows history processes rows.now
         → IsTrue result → AreAlike history (call_at first.process first.place) (call_at other.process other.place) }
@@ -53,7 +37,15 @@ pub(crate) fn are_alike(rows: &Rows, first: Spot, other: Spot) -> bool
     if !is_same_call(begun.call, other_begun.call) {
         return false;
     }
-    comes_first(rows, first, other)
+    match (
+        rows.ended_at(first.process, first.place),
+        rows.ended_at(other.process, other.place),
+    ) {
+        (Some(end), Some(later)) => end.place < later.place,
+        (Some(_), None) => true,
+        (None, Some(_)) => false,
+        (None, None) => first.process < other.process,
+    }
 }
 
 /// Whether a call that may be taken before the limit can stand for one that has begun and ended so, and ends before it.
@@ -98,7 +90,7 @@ pub(crate) fn has_sooner<O: Object>(task: &Task<O>, here: &Here<O::State>, next:
     let looks = task.hints.at(next.process, taken as usize).looks;
     for (process, count) in counts.iter().enumerate() {
         let place = *count as usize;
-        if task.hints.at(process, place).looks != looks {
+        if process == next.process || task.hints.at(process, place).looks != looks {
             continue;
         }
         let first = Spot { process, place };

@@ -17,7 +17,7 @@ use crate::made_calls::{MadeCalls, outcome};
 use crate::next_call::Next;
 use crate::rows::{Begun, Ended, Rows};
 use crate::searched_object::Object;
-use crate::seen::{Counts, Found};
+use crate::seen::{Counts, Found, Seen};
 use ob_interface::{NoMemory, call};
 use smallvec::SmallVec;
 use std::alloc::Global;
@@ -33,11 +33,12 @@ pub(crate) struct Task<'r, 'a, O> {
     pub hints: &'r Hints,
 }
 
-/// A configuration, with the first place at which a call ends that is not taken there.
+/// A configuration, with the first place at which a call ends that is not taken there. In a hard search, all that was found.
 #[derive_where(Clone, Copy)]
 pub(crate) struct Here<'a, S> {
     pub found: &'a Found<S>,
     pub limit: usize,
+    pub hard: Option<&'a Seen<S>>,
 }
 
 /// What a call made of a state.

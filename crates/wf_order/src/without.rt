@@ -1,56 +1,35 @@
 //! Which open calls need not be tried, since what may come behind them comes without them too.
 
-ghost use Rattle.std.specs.Prelude.{◌≡◌, ◌<◌, ℕ, List, length, IfOk, IsTrue, MatchOption, option_map};
+ghost use Rattle.std.specs.Prelude.{◌≡◌, ◌<◌, ℕ, List, length, IfOk, IsTrue, MatchOption, OnOk};
 ghost use Rattle.ob_interface.specs.Call.{ObjectCall, Reply};
 ghost use Rattle.wf_history.specs.History.{Event};
-ghost use Rattle.wf_history.specs.View.{seen_call, seen_reply};
-ghost use Rattle.wf_order.specs.Rules.{AreIdle, IsAlike, IsSameOutcome};
-ghost use Rattle.wf_order.specs.Search.{found_in, IsAt, IsNextStep};
+ghost use Rattle.wf_order.specs.MadeCalls.{AreMade};
+ghost use Rattle.wf_order.specs.Rules.{AreIdle, IsAlike};
+ghost use Rattle.wf_order.specs.Search.{found_in, IsAt, IsNextStep, IsWorded};
 
+use crate::made_calls::{MadeCalls, outcome};
 use crate::same_states::are_same;
 use crate::searched_object::Object;
-use crate::seen::Seen;
+use crate::seen::Found;
 use crate::step::{Here, Task, one_more};
 use ob_interface::NoMemory;
-use wf_history::{SeenCall, SeenReply};
-
-/// Whether a call that has this reply behind a state, if one is known, has it here too, and leads to the same state.
-fn has_same_outcome<O: Object>(
-    task: &Task<O>,
-    here: &Here<O::State>,
-    behind: &O::State,
-    call: SeenCall,
-    known: Option<SeenReply>,
-) -> Result<bool, NoMemory>
-    ensures { IfOk result (λ same. IsTrue same
-        → IsSameOutcome (O.effect task.now.object.now (seen_call call.entry)) (O.meaning here.now.found.now.state) (O.meaning behind.now) (option_map seen_reply known.entry)) }
-{
-    let alloc = task.alloc;
-    let object = task.object;
-    let Some(after) = object.outcome(alloc, behind, call, known)? else {
-        return Ok(true);
-    };
-    let Some(other) = object.outcome(alloc, &here.found.state, call, known)? else {
-        return Ok(false);
-    };
-    are_same(alloc, object, &other, &after)
-}
 
 /// Whether the next call of a process, where it may come behind an open call of another one that leads to this state, leads to the
 /// same state without that, or is open too, and leaves the state as it is.
-fn is_alike<O: Object>(
-    task: &Task<O>,
+fn is_alike<'a, O: Object>(
+    task: &Task<'_, 'a, O>,
     here: &Here<O::State>,
-    by: usize,
-    behind: &O::State,
+    behind: &Found<O::State>,
     process: usize,
+    calls: &mut MadeCalls<'a, O::State>,
 ) -> Result<bool, NoMemory>
-    ensures { (history : List (Event ObjectCall Reply)) → IsAt history task.now.rows.now here.now
-        → IfOk result (λ alike. IsTrue alike → IsAlike (O.effect task.now.object.now) history (found_in O.meaning here.now.found.now) by (O.meaning behind.now) process) }
+    requires worded { IsWorded O.meaning O.words_of here.now.found.now }
+    requires behind { IsWorded O.meaning O.words_of behind.now }
+    requires made { AreMade O.meaning O.words_of (O.effect task.now.object.now) calls.old }
+    ensures made { OnOk result (AreMade O.meaning O.words_of (O.effect task.now.object.now) calls.new) }
+    ensures alike { (history : List (Event ObjectCall Reply)) (by : ℕ) → IsAt history task.now.rows.now here.now
+        → IfOk result (λ alike. IsTrue alike → IsAlike (O.effect task.now.object.now) history (found_in O.meaning here.now.found.now) by (O.meaning behind.now.state) process) }
 {
-    if process == by {
-        return Ok(true);
-    }
     let Some(taken) = here.found.counts.get(process) else {
         return Ok(false);
     };
@@ -67,43 +46,64 @@ fn is_alike<O: Object>(
             return Ok(true);
         }
     }
-    has_same_outcome(task, here, behind, begun.call, known)
+    let Some(after) = outcome(task, behind, begun.call, known, calls)? else {
+        return Ok(true);
+    };
+    let Some(other) = outcome(task, here.found, begun.call, known, calls)? else {
+        return Ok(false);
+    };
+    are_same(task.alloc, task.object, &other, &after)
 }
 
-/// The same of the next calls of all processes.
-fn are_all_alike<O: Object>(
-    task: &Task<O>,
+/// The same of the next calls of all other processes.
+fn are_all_alike<'a, O: Object>(
+    task: &Task<'_, 'a, O>,
     here: &Here<O::State>,
     by: usize,
-    behind: &O::State,
+    behind: &Found<O::State>,
+    calls: &mut MadeCalls<'a, O::State>,
 ) -> Result<bool, NoMemory>
-    ensures { (history : List (Event ObjectCall Reply)) → IsAt history task.now.rows.now here.now
+    requires worded { IsWorded O.meaning O.words_of here.now.found.now }
+    requires behind { IsWorded O.meaning O.words_of behind.now }
+    requires made { AreMade O.meaning O.words_of (O.effect task.now.object.now) calls.old }
+    ensures made { OnOk result (AreMade O.meaning O.words_of (O.effect task.now.object.now) calls.new) }
+    ensures alike { (history : List (Event ObjectCall Reply)) → IsAt history task.now.rows.now here.now
         → IfOk result (λ alike. IsTrue alike → (process : ℕ) → process < length here.now.found.now.counts.items
-        → IsAlike (O.effect task.now.object.now) history (found_in O.meaning here.now.found.now) by (O.meaning behind.now) process) }
+        → IsAlike (O.effect task.now.object.now) history (found_in O.meaning here.now.found.now) by (O.meaning behind.now.state) process) }
 {
     for process in 0..here.found.counts.len() {
-        if !is_alike(task, here, by, behind, process)? {
+        if process == by {
+            continue;
+        }
+        if !is_alike(task, here, behind, process, calls)? {
             return Ok(false);
         }
     }
     Ok(true)
 }
 
-/// The state that the next call of a process leads to; nothing where it never ends, leads to a configuration that was not found, and need not
-/// be tried, since what may come behind it comes without it too.
-pub(crate) fn unless_left_out<O: Object>(
-    task: &Task<O>,
+/// The state that the next call of a process leads to; nothing where it never ends, leads to a configuration that was not found in a hard search,
+/// and need not be tried, since what may come behind it comes without it too. It stands apart, since most calls end.
+#[inline(never)]
+pub(crate) fn unless_left_out<'a, O: Object>(
+    task: &Task<'_, 'a, O>,
     here: &Here<O::State>,
-    seen: &Seen<O::State>,
     process: usize,
     state: O::State,
+    calls: &mut MadeCalls<'a, O::State>,
 ) -> Result<Option<O::State>, NoMemory>
-    requires { (history : List (Event ObjectCall Reply)) → IsAt history task.now.rows.now here.now
+    requires step { (history : List (Event ObjectCall Reply)) → IsAt history task.now.rows.now here.now
         → IsNextStep (O.effect task.now.object.now) history (found_in O.meaning here.now.found.now) process (O.meaning state) }
-    ensures { (history : List (Event ObjectCall Reply)) → IsAt history task.now.rows.now here.now
+    requires worded { IsWorded O.meaning O.words_of here.now.found.now }
+    requires made { AreMade O.meaning O.words_of (O.effect task.now.object.now) calls.old }
+    ensures made { OnOk result (AreMade O.meaning O.words_of (O.effect task.now.object.now) calls.new) }
+    ensures left_out { (history : List (Event ObjectCall Reply)) → IsAt history task.now.rows.now here.now
         → IfOk result (λ o. MatchOption o (AreIdle (O.effect task.now.object.now) history (found_in O.meaning here.now.found.now) process)
         (λ same. IsNextStep (O.effect task.now.object.now) history (found_in O.meaning here.now.found.now) process (O.meaning same))) }
 {
+    let Some(seen) = here.hard else {
+        return Ok(Some(state));
+    };
     let Some(taken) = here.found.counts.get(process) else {
         return Ok(Some(state));
     };
@@ -112,10 +112,11 @@ pub(crate) fn unless_left_out<O: Object>(
         return Ok(Some(state));
     };
     let (_id, there) = one_more(task, &here.found.counts, process, state)?;
-    if !seen.contains(&there) {
-        if are_all_alike(task, here, process, &there.state)? {
-            return Ok(None);
-        }
+    if seen.contains(&there) {
+        return Ok(Some(there.state));
+    }
+    if are_all_alike(task, here, process, &there, calls)? {
+        return Ok(None);
     }
     Ok(Some(there.state))
 }

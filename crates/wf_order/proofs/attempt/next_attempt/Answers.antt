@@ -30,8 +30,8 @@ returns-then-turn-limit-clause-next g c = λ history found at.
     let here = found_in g.O.Object.meaning c.args.here.now.found.now in
     let limit = c.args.here.now.limit in
     let turn = c.first_turn-turn.result in
-    let first = first_here c.args.task.now.rows.now c.deref.result.now c.args.here.now.found.now.counts.items c.deref.ensures c.args.from c.loop-start.start limit c.in_ok-turns.turns.items c.as_slice.result.now c.as_slice.ensures turn
-    c.in_ok-turns.ensures c.loop-start.invariant.2 c.first_turn-turn.ensures in
+    let first = first_here c.args.task.now.rows.now c.deref.result.now c.args.here.now.found.now.counts.items c.deref.ensures c.args.from c.loop-start.start limit c.turns_from.new.turns.items c.as_slice.result.now c.as_slice.ensures turn
+    c.in_ok-turns_from.ensures c.loop-start.invariant.2 c.first_turn-turn.ensures in
     all_tried (g.O.Object.effect c.args.task.now.object.now) history c.args.task.now.rows.now found here at.0 limit at.1 c.args.from
     c.loop-start.start (c.loop-start.invariant.1 history found at).0 turn first c.if-turn-limit.true
 
@@ -39,8 +39,8 @@ pub unreachable-requires : goal.unreachable-requires
 unreachable-requires g c =
     let turn = c.first_turn-turn.result in
     let row = row_of (begun_rows c.args.task.now.rows.now) turn.process in
-    let first = first_here c.args.task.now.rows.now c.deref.result.now c.args.here.now.found.now.counts.items c.deref.ensures c.args.from c.loop-start.start c.args.here.now.limit c.in_ok-turns.turns.items c.as_slice.result.now c.as_slice.ensures turn
-    c.in_ok-turns.ensures c.loop-start.invariant.2 c.first_turn-turn.ensures in
+    let first = first_here c.args.task.now.rows.now c.deref.result.now c.args.here.now.found.now.counts.items c.deref.ensures c.args.from c.loop-start.start c.args.here.now.limit c.turns_from.new.turns.items c.as_slice.result.now c.as_slice.ensures turn
+    c.in_ok-turns_from.ensures c.loop-start.invariant.2 c.first_turn-turn.ensures in
     let own = first.own (let f = c.if-turn-limit.false in omega (arith, f)) in
     let none = c.in_default.ensures (subst (λ (l : List ℕ). turn.process < length l) (sym c.deref-in-loop-start.ensures) own.1) in
     let there : ◌≡◌ {A = Option Begun} None (Some own.0) = sym none ∙ ap (λ (l : List ℕ). slice_get row (get_or l turn.process 0)) c.deref-in-loop-start.ensures ∙ own.2 in
@@ -53,15 +53,15 @@ next_place-requires-clause-turns g c =
     let counts = c.args.here.now.found.now.counts.items in
     let turn = c.first_turn-turn.result in
     let le = c.loop-start.invariant.2 in
-    let first = first_here rows c.deref.result.now counts c.deref.ensures c.args.from c.loop-start.start limit c.in_ok-turns.turns.items c.as_slice.result.now c.as_slice.ensures turn
-    c.in_ok-turns.ensures le c.first_turn-turn.ensures in
+    let first = first_here rows c.deref.result.now counts c.deref.ensures c.args.from c.loop-start.start limit c.turns_from.new.turns.items c.as_slice.result.now c.as_slice.ensures turn
+    c.in_ok-turns_from.ensures le c.first_turn-turn.ensures in
     let own = first.own (let f = c.if-turn-limit.false in omega (arith, f)) in
     let low = own.4 in
     let place = next_begins rows counts c.deref-in-loop-start.result.now c.deref-in-loop-start.ensures turn c.in-Some.call c.in-Some.ensures.0 c.in-Some.ensures.1 own.0 own.2 own.3 in (
       c.args.from,
       omega (arith, le, low, place),
       subst (λ (l : List Turn). AreTurns rows counts (length counts) c.args.from limit l) (sym c.as_slice-in-Some-2.ensures)
-          (subst (λ (l : List ℕ). AreTurns rows l (length l) c.args.from limit c.in_ok-turns.turns.items) c.deref.ensures c.in_ok-turns.ensures),
+          (subst (λ (l : List ℕ). AreTurns rows l (length l) c.args.from limit c.turns_from.new.turns.items) c.deref.ensures c.in_ok-turns_from.ensures),
     )
 
 pub next_place-requires-clause-early : goal.next_place-requires-clause-early
@@ -70,8 +70,8 @@ next_place-requires-clause-early g c =
     let rows = c.args.task.now.rows.now in
     let counts = c.args.here.now.found.now.counts.items in
     let turn = c.first_turn-turn.result in
-    let first = first_here rows c.deref.result.now counts c.deref.ensures c.args.from c.loop-start.start limit c.in_ok-turns.turns.items c.as_slice.result.now c.as_slice.ensures turn
-    c.in_ok-turns.ensures c.loop-start.invariant.2 c.first_turn-turn.ensures in
+    let first = first_here rows c.deref.result.now counts c.deref.ensures c.args.from c.loop-start.start limit c.turns_from.new.turns.items c.as_slice.result.now c.as_slice.ensures turn
+    c.in_ok-turns_from.ensures c.loop-start.invariant.2 c.first_turn-turn.ensures in
     let early = c.if-turn-limit.false in
     let own = first.own (omega (arith, early)) in
     let place = next_begins rows counts c.deref-in-loop-start.result.now c.deref-in-loop-start.ensures turn c.in-Some.call c.in-Some.ensures.0 c.in-Some.ensures.1 own.0 own.2 own.3 in
@@ -84,8 +84,8 @@ returns-in-Some-2-clause-next g c = λ history found at.
     let here = view c.args.here.now.found.now in
     let limit = c.args.here.now.limit in
     let turn = c.first_turn-turn.result in
-    let first = first_here c.args.task.now.rows.now c.deref.result.now c.args.here.now.found.now.counts.items c.deref.ensures c.args.from c.loop-start.start limit c.in_ok-turns.turns.items c.as_slice.result.now c.as_slice.ensures turn
-    c.in_ok-turns.ensures c.loop-start.invariant.2 c.first_turn-turn.ensures in
+    let first = first_here c.args.task.now.rows.now c.deref.result.now c.args.here.now.found.now.counts.items c.deref.ensures c.args.from c.loop-start.start limit c.turns_from.new.turns.items c.as_slice.result.now c.as_slice.ensures turn
+    c.in_ok-turns_from.ensures c.loop-start.invariant.2 c.first_turn-turn.ensures in
     let early : turn.place < limit = let f = c.if-turn-limit.false in omega (arith, f) in
     let covered = c.loop-start.invariant.1 history found at in
     let after = g.O.Object.meaning c.in-Some-2.state in
@@ -105,8 +105,8 @@ returns-in-Some-2-clause-next g c = λ history found at.
 pub returns-in-Some-2-clause-within : goal.returns-in-Some-2-clause-within
 returns-in-Some-2-clause-within g c =
     let turn = c.first_turn-turn.result in
-    let first = first_here c.args.task.now.rows.now c.deref.result.now c.args.here.now.found.now.counts.items c.deref.ensures c.args.from c.loop-start.start c.args.here.now.limit c.in_ok-turns.turns.items c.as_slice.result.now c.as_slice.ensures turn
-    c.in_ok-turns.ensures c.loop-start.invariant.2 c.first_turn-turn.ensures in
+    let first = first_here c.args.task.now.rows.now c.deref.result.now c.args.here.now.found.now.counts.items c.deref.ensures c.args.from c.loop-start.start c.args.here.now.limit c.turns_from.new.turns.items c.as_slice.result.now c.as_slice.ensures turn
+    c.in_ok-turns_from.ensures c.loop-start.invariant.2 c.first_turn-turn.ensures in
     let own = first.own (let f = c.if-turn-limit.false in omega (arith, f)) in
     own.1
 
@@ -119,8 +119,8 @@ loop-start-preserved g c = (
       let here = view c.args.here.now.found.now in
       let limit = c.args.here.now.limit in
       let turn = c.first_turn-turn.result in
-      let first = first_here c.args.task.now.rows.now c.deref.result.now c.args.here.now.found.now.counts.items c.deref.ensures c.args.from c.loop-start.start limit c.in_ok-turns.turns.items c.as_slice.result.now c.as_slice.ensures turn
-      c.in_ok-turns.ensures c.loop-start.invariant.2 c.first_turn-turn.ensures in
+      let first = first_here c.args.task.now.rows.now c.deref.result.now c.args.here.now.found.now.counts.items c.deref.ensures c.args.from c.loop-start.start limit c.turns_from.new.turns.items c.as_slice.result.now c.as_slice.ensures turn
+      c.in_ok-turns_from.ensures c.loop-start.invariant.2 c.first_turn-turn.ensures in
       let early : turn.place < limit = let f = c.if-turn-limit.false in omega (arith, f) in
       let covered = c.loop-start.invariant.1 history found at in
       let tried = subst (λ (p : ℕ). MatchOption c.in_ok-state.field-0 (AreAnswered effect history found here p) (λ s. IsNextStep effect history here p (g.O.Object.meaning s))) c.in-Some.ensures.0

@@ -1,5 +1,5 @@
 -- By the call that stands there.
-use Rattle.std.proofs.Common.{◌≡◌, sym, ap, ◌∙◌, get_or, List, None, Option, option_map}
+use Rattle.std.proofs.Common.{◌≡◌, sym, ap, ◌∙◌, option_map}
 use Rattle.std.proofs.lemmas.Option.{same_Some}
 use Rattle.std.specs.Prelude.{option_copied}
 use Rattle.ob_interface.specs.View.{reply_of}
@@ -11,7 +11,7 @@ pub returns-then-not-is_same_reply-clause-outcome : goal.returns-then-not-is_sam
 returns-then-not-is_same_reply-clause-outcome g c =
     let has = c.in_ok-row.ensures.there in
     let made = c.in-Some.made.now in
-    let is : made ≡ has.made = same_Some made has.made (sym (ap option_copied c.in-Some.is) ∙ c.made_at.ensures ∙ ap (λ (rows : List (Option (MadeCall g.row.O-State.Denot))). get_or rows c.in_ok-row.row None) c.count.ensures ∙ has.at) in (
+    let is : made ≡ has.made = same_Some made has.made (sym (ap option_copied c.in-Some.is) ∙ c.made_at.ensures ∙ has.at) in (
       g.O.Object.meaning has.made.state,
       reply_of has.made.reply,
       has.effect,

@@ -1,20 +1,38 @@
--- The first process whose call reads here.
+-- The first process whose call reads here, by the rows and by what the call replies.
+use Rattle.std.proofs.Common.{refl, subst, get_or}
+use Rattle.std.proofs.lemmas.Option.{slice_get_within}
+use Rattle.ob_interface.specs.Call.{Reply}
+use Rattle.wf_history.specs.View.{seen_call}
+use Rattle.wf_order.specs.Rows.{begun_rows, row_of}
+use Rattle.wf_order.specs.Search.{found_in}
+use Rattle.wf_order.proofs.Stepping.{reading_taken}
 use Rattle.wf_order.proofs.passing.reader_at.Goals as goal
 
 pub loop-process-init : goal.loop-process-init
 loop-process-init g c = c.requires.made
 
-pub reads_here-requires-clause-made : goal.reads_here-requires-clause-made
-reads_here-requires-clause-made g c = c.loop-process.invariant
+pub replies_so-requires-clause-made : goal.replies_so-requires-clause-made
+replies_so-requires-clause-made g c = c.loop-process.invariant
 
-pub returns-then-branch-clause-next : goal.returns-then-branch-clause-next
-returns-then-branch-clause-next g c = c.in_ok-reads_here.ensures.next c.if-branch.true
+pub returns-then-reads-clause-next : goal.returns-then-reads-clause-next
+returns-then-reads-clause-next g c =
+    let process = c.loop-process.process in
+    let counts = c.args.here.now.found.now.counts.items in
+    let call = c.in-Some.ensures in
+    (call.within, slice_get_within (row_of (begun_rows c.args.task.now.rows.now) process) (get_or counts process 0) c.in-Some.begun call.at.0)
 
-pub returns-then-branch-clause-reads : goal.returns-then-branch-clause-reads
-returns-then-branch-clause-reads g c = λ history at. c.in_ok-reads_here.ensures.reads history at c.if-branch.true
+pub returns-then-reads-clause-reads : goal.returns-then-reads-clause-reads
+returns-then-reads-clause-reads g c = λ history at.
+    let process = c.loop-process.process in
+    let here = found_in g.O.Object.meaning c.args.here.now.found.now in
+    let effect = g.O.Object.effect c.args.task.now.object.now in
+    let call = c.in-Some.ensures in
+    let made = c.in_ok-reads.ensures.so in
+    reading_taken effect (λ call. g.met.O.Object.determined c.args.task.now.object.now call) history c.args.task.now.rows.now here at.0 c.args.here.now.limit at.1 process (get_or here.counts process 0) refl
+    c.in-Some.begun call.at.0 c.in-Some.end call.at.1 (c.is_reader.ensures c.if-not-is_reader.false) call.within call.early made.after (subst (λ (r : Reply). effect (seen_call c.in-Some.begun.call) here.state made.after r) (made.same.0 c.if-reads.true) made.effect)
 
 pub loop-process-preserved : goal.loop-process-preserved
-loop-process-preserved g c = c.in_ok-reads_here.ensures.made
+loop-process-preserved g c = c.in_ok-reads.ensures.made
 
 pub returns-clause-made : goal.returns-clause-made
 returns-clause-made g c = c.loop-process.invariant

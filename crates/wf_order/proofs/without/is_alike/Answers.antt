@@ -4,9 +4,9 @@ use Rattle.std.specs.Option.{is_some}
 use Rattle.std.proofs.lemmas.Result.{IfOk-weaker}
 use Rattle.wf_history.specs.declared.seen_event.SeenReply.{SeenReply}
 use Rattle.wf_history.specs.View.{seen_call, seen_reply}
-use Rattle.wf_order.specs.Rules.{IsSameOutcome}
+use Rattle.wf_order.specs.Rules.{IsOutcome, IsSameOutcome}
 use Rattle.wf_order.specs.Search.{found_in}
-use Rattle.wf_order.proofs.LeftOut.{alike_late, alike_none, alike_outcome, alike_own, alike_reader}
+use Rattle.wf_order.proofs.LeftOut.{alike_late, alike_none, alike_outcome, alike_reader, same_none, same_some}
 use Rattle.wf_order.proofs.Taken.{taken_is}
 use Rattle.wf_order.proofs.without.is_alike.Goals as goal
 
@@ -18,49 +18,66 @@ none_is : {A : Type 0} (o : Option A) → is_some o ≡ false → o ≡ None
 none_is None e = refl
 none_is (Some x) e = absurd (cc)
 
-pub returns-then-process-by : goal.returns-then-process-by
-returns-then-process-by g c = λ history at t.
-    alike_own (g.O.Object.effect c.args.task.now.object.now) (λ call. g.met.O.Object.determined c.args.task.now.object.now call) history c.args.task.now.rows.now
-    (found_in g.O.Object.meaning c.args.here.now.found.now) at.0 c.args.here.now.limit at.1 c.args.by (g.O.Object.meaning c.args.behind.now) c.args.process c.if-process-by.true
-
-pub returns-in_default-begun_at : goal.returns-in_default-begun_at
-returns-in_default-begun_at g c = λ history at t.
+pub returns-in_default-begun_at-clause-alike : goal.returns-in_default-begun_at-clause-alike
+returns-in_default-begun_at-clause-alike g c = λ history by at t.
     let process = c.args.process in
     let found = c.args.here.now.found.now in
     let is = taken_is c.deref.result.now found.counts.items process c.in-Some.taken.now c.in-Some.ensures.lookup.0 c.in-Some.ensures.lookup.1 c.deref.ensures in
     alike_none (g.O.Object.effect c.args.task.now.object.now) (λ call. g.met.O.Object.determined c.args.task.now.object.now call) history c.args.task.now.rows.now
-    (found_in g.O.Object.meaning found) at.0 c.args.here.now.limit at.1 c.args.by (g.O.Object.meaning c.args.behind.now) process c.in-Some.taken.now is (sym c.begun_at.ensures.item ∙ c.in_default-begun_at.is)
+    (found_in g.O.Object.meaning found) at.0 c.args.here.now.limit at.1 by (g.O.Object.meaning c.args.behind.now.state) process c.in-Some.taken.now is (sym c.begun_at.ensures.item ∙ c.in_default-begun_at.is)
 
-pub returns-then-begun-here : goal.returns-then-begun-here
-returns-then-begun-here g c = λ history at t.
+pub returns-then-begun-here-clause-alike : goal.returns-then-begun-here-clause-alike
+returns-then-begun-here-clause-alike g c = λ history by at t.
     let process = c.args.process in
     let found = c.args.here.now.found.now in
     let is = taken_is c.deref.result.now found.counts.items process c.in-Some.taken.now c.in-Some.ensures.lookup.0 c.in-Some.ensures.lookup.1 c.deref.ensures in
     alike_late (g.O.Object.effect c.args.task.now.object.now) (λ call. g.met.O.Object.determined c.args.task.now.object.now call) history c.args.task.now.rows.now
-    (found_in g.O.Object.meaning found) at.0 c.args.here.now.limit at.1 c.args.by (g.O.Object.meaning c.args.behind.now) process c.in-Some.taken.now is
+    (found_in g.O.Object.meaning found) at.0 c.args.here.now.limit at.1 by (g.O.Object.meaning c.args.behind.now.state) process c.in-Some.taken.now is
     c.in-Some-begun_at.begun (sym c.begun_at.ensures.item ∙ c.in-Some-begun_at.is) c.if-begun-here.true
 
-pub returns-then-is_reader : goal.returns-then-is_reader
-returns-then-is_reader g c = λ history at t.
+pub returns-then-is_reader-clause-alike : goal.returns-then-is_reader-clause-alike
+returns-then-is_reader-clause-alike g c = λ history by at t.
     let process = c.args.process in
     let found = c.args.here.now.found.now in
     let is = taken_is c.deref.result.now found.counts.items process c.in-Some.taken.now c.in-Some.ensures.lookup.0 c.in-Some.ensures.lookup.1 c.deref.ensures in
     let none = none_mapped (λ e. e.reply) _ (sym c.reply_at-known.ensures ∙ none_is c.reply_at-known.result (c.is_none.ensures ∙ ap not c.if-is_none.true)) in
     alike_reader (g.O.Object.effect c.args.task.now.object.now) (λ call. g.met.O.Object.determined c.args.task.now.object.now call) history c.args.task.now.rows.now
-    (found_in g.O.Object.meaning found) at.0 c.args.here.now.limit at.1 c.args.by (g.O.Object.meaning c.args.behind.now) process c.in-Some.taken.now is
+    (found_in g.O.Object.meaning found) at.0 c.args.here.now.limit at.1 by (g.O.Object.meaning c.args.behind.now.state) process c.in-Some.taken.now is
     c.in-Some-begun_at.begun (sym c.begun_at.ensures.item ∙ c.in-Some-begun_at.is) none (c.is_reader.ensures c.if-is_reader.true)
 
-pub returns : goal.returns
-returns g c = λ history at.
+pub returns-in_default-2-clause-alike : goal.returns-in_default-2-clause-alike
+returns-in_default-2-clause-alike g c = λ history by at t.
     let process = c.args.process in
     let found = c.args.here.now.found.now in
     let here = found_in g.O.Object.meaning found in
-    let effect = g.O.Object.effect c.args.task.now.object.now in
-    let behind = g.O.Object.meaning c.args.behind.now in
     let begun = c.in-Some-begun_at.begun in
+    let effects = g.O.Object.effect c.args.task.now.object.now in
+    let effect = effects (seen_call begun.call) in
+    let behind = g.O.Object.meaning c.args.behind.now.state in
+    let known = option_map seen_reply c.reply_at-known.result in
     let is = taken_is c.deref.result.now found.counts.items process c.in-Some.taken.now c.in-Some.ensures.lookup.0 c.in-Some.ensures.lookup.1 c.deref.ensures in
-    IfOk-weaker c.has_same_outcome.result _ _
-    (λ same h t. alike_outcome effect (λ call. g.met.O.Object.determined c.args.task.now.object.now call) history c.args.task.now.rows.now
-    here at.0 c.args.here.now.limit at.1 c.args.by behind process c.in-Some.taken.now is begun (sym c.begun_at.ensures.item ∙ c.in-Some-begun_at.is)
-    (subst (λ (o : Option SeenReply). IsSameOutcome (effect (seen_call begun.call)) here.state behind (option_map seen_reply o)) c.reply_at-known.ensures (h t)))
-    c.has_same_outcome.ensures
+    let outcome = subst (λ (o : Option g.row.O-State.Denot). IsOutcome effect behind known (option_map g.O.Object.meaning o)) c.in_default-2.is c.in_ok-after.ensures.outcome in
+    let same = same_none effect (g.met.O.Object.determined c.args.task.now.object.now (seen_call begun.call)) here.state behind known outcome in
+    alike_outcome effects (λ call. g.met.O.Object.determined c.args.task.now.object.now call) history c.args.task.now.rows.now
+    here at.0 c.args.here.now.limit at.1 by behind process c.in-Some.taken.now is begun (sym c.begun_at.ensures.item ∙ c.in-Some-begun_at.is)
+    (subst (λ (o : Option SeenReply). IsSameOutcome effect here.state behind (option_map seen_reply o)) c.reply_at-known.ensures same)
+
+pub returns-clause-alike : goal.returns-clause-alike
+returns-clause-alike g c = λ history by at.
+    let process = c.args.process in
+    let found = c.args.here.now.found.now in
+    let here = found_in g.O.Object.meaning found in
+    let begun = c.in-Some-begun_at.begun in
+    let effects = g.O.Object.effect c.args.task.now.object.now in
+    let effect = effects (seen_call begun.call) in
+    let behind = g.O.Object.meaning c.args.behind.now.state in
+    let known = option_map seen_reply c.reply_at-known.result in
+    let is = taken_is c.deref.result.now found.counts.items process c.in-Some.taken.now c.in-Some.ensures.lookup.0 c.in-Some.ensures.lookup.1 c.deref.ensures in
+    let there = subst (λ (o : Option g.row.O-State.Denot). IsOutcome effect behind known (option_map g.O.Object.meaning o)) c.in-Some-2.is c.in_ok-after.ensures.outcome in
+    let other = subst (λ (o : Option g.row.O-State.Denot). IsOutcome effect here.state known (option_map g.O.Object.meaning o)) c.in-Some-3.is c.in_ok-other.ensures.outcome in
+    IfOk-weaker c.are_same.result _ _
+    (λ same h t. alike_outcome effects (λ call. g.met.O.Object.determined c.args.task.now.object.now call) history c.args.task.now.rows.now
+    here at.0 c.args.here.now.limit at.1 by behind process c.in-Some.taken.now is begun (sym c.begun_at.ensures.item ∙ c.in-Some-begun_at.is)
+    (subst (λ (o : Option SeenReply). IsSameOutcome effect here.state behind (option_map seen_reply o)) c.reply_at-known.ensures
+    (same_some effect (g.met.O.Object.determined c.args.task.now.object.now (seen_call begun.call)) here.state behind known (g.O.Object.meaning c.in-Some-2.after) (g.O.Object.meaning c.in-Some-3.other) there other (h.0 t))))
+    c.are_same.ensures
