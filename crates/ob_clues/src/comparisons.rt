@@ -47,14 +47,14 @@ fn is_compared(kind: Kind) -> bool {
     )
 }
 
-/// Notes that the operand at the place, which is of this type, is a whole array or record and compared with a single value.
+/// Notes that the expression at the place, which is of this type, is a whole array or record where a single value is wanted, or is compared with one.
 pub fn note_beside(
     facts: &mut Vec<Fact>,
     alloc: Global,
     site: &Site<'_, '_>,
     found: Type,
 ) -> Result<(), AllocError> {
-    if !is_beside_single(alloc, site)? {
+    if !facts.contains(&Fact::OtherWhole) && !is_beside_single(alloc, site)? {
         return Ok(());
     }
     match found {

@@ -19,6 +19,16 @@ pub fn is_procedure(site: &Site<'_, '_>, tokens: &[Token], word: &[u8]) -> bool 
     false
 }
 
+/// The name behind the next END behind the place.
+pub fn next_ended<'t>(site: &Site<'t, '_>) -> &'t [u8] {
+    for token in site.behind {
+        if token.kind == Kind::End {
+            return site.word_of(next_behind(site.tokens, token.start));
+        }
+    }
+    b""
+}
+
 /// Whether the name at a token stands at another one before it.
 pub fn stands_before(site: &Site<'_, '_>, name: Token) -> bool {
     let word = site.word_of(Some(name));

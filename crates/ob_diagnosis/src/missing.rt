@@ -1,7 +1,7 @@
 //! Which token may be missing before a place.
 
 use ob_clues::further::is_closed_behind;
-use ob_clues::procedure_names::{is_assigned, is_procedure};
+use ob_clues::procedure_names::{is_assigned, is_procedure, next_ended};
 use ob_evidence::small_keywords::next_behind;
 use ob_evidence::text_site::{Site, is_kind};
 use ob_explain_names::expected::is_expected;
@@ -49,16 +49,6 @@ fn ends_there(site: &Site<'_, '_>) -> bool {
         && site.word_of(next_behind(site.tokens, opening.start)) == word
         && (is_kind(site.next(), Kind::Semicolon) || is_kind(site.next(), Kind::Dot))
         && next_ended(site) != word
-}
-
-/// The name behind the next END behind the place.
-fn next_ended<'t>(site: &Site<'t, '_>) -> &'t [u8] {
-    for token in site.behind {
-        if token.kind == Kind::End {
-            return site.word_of(next_behind(site.tokens, token.start));
-        }
-    }
-    b""
 }
 
 /// Whether the token there is an operand and begins no statement.

@@ -127,7 +127,11 @@ pub(crate) fn types_remark(alloc: Global, site: &Site<'_, '_>) -> Result<Remark,
         line: declared_line(site.text, called),
         ..nothing()
     };
-    told(alloc, site, Number::C4, &of_facts(&facts), &evidence)
+    let seen = Seen {
+        word: site.word(),
+        ..of_facts(&facts)
+    };
+    told(alloc, site, Number::C4, &seen, &evidence)
 }
 
 /// The remark on a constant that has no value (C5).

@@ -116,7 +116,7 @@ pub const TYPE_ROWS: &[Row] = rows! {
     [Is(Fact::TwoArrays)] => PieceOf::Text("this and the parameter are both arrays, but of two types");
     [Is(Fact::TwoRecords)] => PieceOf::Text("this and the parameter are both records, but of two types");
     [Is(Fact::OtherSingle)] => PieceOf::Text("the expression that begins here is "), PieceOf::Found;
-    [Is(Fact::OtherWhole)] => PieceOf::Text("this is "), PieceOf::Found;
+    [Is(Fact::OtherWhole)] => PieceOf::Text("the expression that begins here is "), PieceOf::Found;
     [Is(Fact::OtherUnknown)] =>
         PieceOf::Text("the expression that begins here is "), PieceOf::Found, PieceOf::Text(", or a whole array or record");
     [Is(Fact::ArrayThere)] => PieceOf::Text("a whole array stands in no expression; take an element");

@@ -166,7 +166,7 @@ pub enum Fact {
     /// Behind the sign stands what it does not take, or what is not known.
     WrongSigned,
     UnknownSigned,
-    /// Whole arrays or records are compared; a whole array with a single value, or a whole record.
+    /// Whole arrays or records are compared; a whole array stands where a single value is meant, or a whole record.
     WholeCompared,
     ArrayBeside,
     RecordBeside,

@@ -356,7 +356,7 @@ pub const SYMBOL_ROWS: &[Row] = rows! {
     [Sign("#include")] => &[PieceOf::Text("there is no IMPORT; a module stands alone")];
     [Sign("#define")] => CONSTANTS;
     [Here(&[Kind::NotEqual]), Never(&[Kind::Number, Kind::And, Kind::Assign])] =>
-        &[PieceOf::Text("a comment is written (* .. *), and # is not equal")];
+        &[PieceOf::Text("a comment is written (* .. *), and # means not equal")];
 };
 
 /// Keywords as names, blocks, and tokens among statements.
@@ -638,7 +638,8 @@ pub const RULE_ROWS: &[Row] = rows! {
             Kind::Until, Kind::Array, Kind::Div, Kind::Mod, Kind::Or
         ])
     ] => NO_FUNCTION;
-    [On(Number::C3), Is(Fact::Procedure), Next(&[Kind::Assign])] => NO_FUNCTION;
+    [On(Number::C3), Is(Fact::Procedure), Next(&[Kind::Assign])] =>
+        &[PieceOf::Text("there are no functions; a procedure gives its result by a VAR parameter: assign to that")];
     [On(Number::C3), Is(Fact::Constant), Next(&[Kind::Assign])] =>
         &[PieceOf::Text("a constant is never changed; what changes is declared in VAR")];
     [On(Number::C3), Sign(".\n")] => ENDED_BY_DOT;
@@ -662,16 +663,21 @@ pub const RULE_ROWS: &[Row] = rows! {
         &[PieceOf::Text("is a field of the record meant before the :=, as r.f?")];
     [On(Number::C4), Is(Fact::ArrayAssigned)] => &[PieceOf::Text("a loop does that: i := 0; WHILE i < n DO a[i] := b[i]; i := i + 1 END")];
     [On(Number::C4), Is(Fact::RecordAssigned)] => &[PieceOf::Text("that is done by r.f := s.f for each field f")];
-    [On(Number::C4), Last(&[Kind::Assign, Kind::If, Kind::Elsif, Kind::While, Kind::Until, Kind::LeftBracket]), Is(Fact::OtherWhole)] =>
-        &[PieceOf::Text("take one value of it: an element a[i], or a field r.f")];
+    [
+        On(Number::C4), Last(&[Kind::Assign, Kind::If, Kind::Elsif, Kind::While, Kind::Until, Kind::LeftBracket]), Is(Fact::OtherWhole),
+        Is(Fact::ArrayBeside)
+    ] => &[PieceOf::Text("take an element of it, as a[i]")];
+    [
+        On(Number::C4), Last(&[Kind::Assign, Kind::If, Kind::Elsif, Kind::While, Kind::Until, Kind::LeftBracket]), Is(Fact::OtherWhole),
+        Is(Fact::RecordBeside)
+    ] => &[PieceOf::Text("take a field of it, as r.f")];
     [On(Number::C4), Last(&[Kind::If, Kind::Elsif, Kind::While, Kind::Until]), Is(Fact::OtherSingle)] =>
         &[PieceOf::Text("a number is no condition; write a comparison, as x # 0")];
     [
         On(Number::C4), Last(&[Kind::Assign]), Here(&[Kind::Number]), Is(Fact::OtherSingle),
         Next(&[Kind::Semicolon, Kind::End, Kind::Elsif, Kind::Else, Kind::Until])
     ] => &[PieceOf::Text("a BOOLEAN is TRUE or FALSE")];
-    [On(Number::C4), Last(&[Kind::Assign]), Sign("TRUE"), Is(Fact::OtherSingle), Next(END_STATEMENT)] => NO_TRUTH;
-    [On(Number::C4), Last(&[Kind::Assign]), Sign("FALSE"), Is(Fact::OtherSingle), Next(END_STATEMENT)] => NO_TRUTH;
+    [On(Number::C4), Last(&[Kind::Assign]), Word(&["TRUE", "FALSE"]), Is(Fact::OtherSingle), Next(END_STATEMENT)] => NO_TRUTH;
     [On(Number::C4), Last(&[Kind::Assign]), Is(Fact::OtherSingle)] => &[PieceOf::Made];
     [On(Number::C4), Is(Fact::WholeCompared), Is(Fact::ArrayBeside)] => &[PieceOf::Text("is an element of the array meant, as a[i]?")];
     [On(Number::C4), Is(Fact::WholeCompared), Is(Fact::RecordBeside)] => &[PieceOf::Text("is a field of the record meant, as r.f?")];

@@ -158,6 +158,7 @@ pub const BYTE_ROWS: &[Row] = rows! {
     [Sign("//"), Is(Fact::QuotientThere)] => QUOTIENT;
     [Sign("//")] => "a comment is written (* .. *), and a quotient with DIV";
     [Sign("/*")] => COMMENT;
+    [Sign("/=")] => "not equal is written #; a variable is divided by x := x DIV y";
     [Sign("/")] => QUOTIENT;
     [Sign("||")] => "or is written OR";
     [Sign("|"), Is(Fact::BehindCase)] => NO_CASE;

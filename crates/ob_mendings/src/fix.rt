@@ -26,11 +26,17 @@ pub const COLON_BEFORE: Fix = fix!(b":" => "with a : before it");
 
 pub const COMMA_BEFORE: Fix = fix!(b"," => "with a , before it");
 
+pub const EQUAL_BEFORE: Fix = fix!(b"=" => "with = before it");
+
+pub const LEFT_PAREN: Fix = fix!(b"(" => "with a ( before it");
+
 pub const PAREN_BEFORE: Fix = fix!(b")" => "with a ) before it");
 
 pub const BRACKET_BEFORE: Fix = fix!(b"]" => "with a ] before it");
 
 pub const OF_BEFORE: Fix = fix!(b" OF " => "with OF before it");
+
+pub const OF_TYPE: Fix = fix!(b" OF INTEGER" => "with OF INTEGER before it");
 
 pub const THEN_BEFORE: Fix = fix!(b" THEN " => "with THEN before it");
 

@@ -1,5 +1,6 @@
 //! Statements and conditions that are written as in other languages, in the module's own names: a variable that is counted up, a FOR, and
-//! comparisons that are joined without parentheses.
+//! comparisons that are joined without parentheses. They are written anew only where all names in them are known: a fault of one would be shown
+//! where what is written anew begins, and a name that stands there twice would be told twice.
 
 use crate::comments::{Run, length_of_run, line_of};
 use crate::fix::worded;
@@ -8,9 +9,11 @@ use crate::part::{CONDITIONS, Part, part_at};
 use crate::tokens::{between, first_behind};
 use ob_evidence::small_keywords::next_behind;
 use ob_evidence::text_site::Site;
+use ob_explain_names::lookup::sort_of;
 use ob_explain_sentences::first_word::{is_same_in_any_case, word_at};
 use ob_explain_sentences::place::halves;
 use ob_explain_tokens::operand_tokens::is_relation;
+use ob_explain_words::declaring::declares;
 use ob_scan::{Kind, Token};
 use std::alloc::{AllocError, Global};
 
@@ -31,13 +34,41 @@ pub fn count_mending(alloc: Global, site: &Site<'_, '_>) -> Result<Option<Mendin
     let line = part.first.start.saturating_add(line_of(rest).len());
     let end = part.end.start.min(line);
     let whole = between(site.text, part.first.start, end);
+    let word = word_at(whole);
+    let is_call = is_same_in_any_case(word, b"INC") || is_same_in_any_case(word, b"DEC");
+    let begin = if is_call {
+        part.first.end
+    } else {
+        part.first.start
+    };
     match count_in(site, part.first.start, end, whole) {
-        Some(count) if !count.variable.is_empty() => {
+        Some(count) if !count.variable.is_empty() && are_known(site, begin, end) => {
             let put = statement_of(alloc, count)?;
             worded(alloc, part.first.start, whole.len(), &put, " in its place")
         }
         _ => Ok(None),
     }
+}
+
+/// Whether each name between two places is one that the text declares, or one of the language's own, but those of fields.
+pub fn are_known(site: &Site<'_, '_>, begin: usize, end: usize) -> bool {
+    let mut last = Kind::Semicolon;
+    for token in site.tokens {
+        let is_inside = begin <= token.start && token.start < end;
+        if is_inside && last != Kind::Dot && is_unknown(site, *token) {
+            return false;
+        }
+        last = token.kind;
+    }
+    true
+}
+
+/// Whether a token is a name that nothing has.
+fn is_unknown(site: &Site<'_, '_>, token: Token) -> bool {
+    let word = site.word_of(Some(token));
+    token.kind == Kind::Ident
+        && sort_of(site.text, site.known, word).is_none()
+        && !declares(site.text, site.tokens, word)
 }
 
 /// The variable that a statement between two places counts, if it does that.
@@ -145,7 +176,11 @@ pub fn for_mending(alloc: Global, site: &Site<'_, '_>) -> Result<Option<Mending>
     let end = heading_end(site, first);
     let assign = first_behind(site.tokens, first.start, &[Kind::Assign]);
     match (assign, named_behind(site, first, b"TO")) {
-        (Some(assign), Some(to)) if assign.end < to.start && to.end < end.0 => {
+        (Some(assign), Some(to))
+            if assign.end < to.start
+                && to.end < end.0
+                && are_known(site, first.end, to.start)
+                && are_known(site, to.end, most_end(site, first, end.0)) => {
             let name = between(site.text, first.end, assign.start);
             let mut put = Vec::from_slice(alloc, name)?;
             put.extend_from_slice(b" := ")?;
@@ -215,7 +250,7 @@ pub fn paren_mending(alloc: Global, site: &Site<'_, '_>) -> Result<Option<Mendin
     let (begin, end) = condition_around(site, first, part.end.start);
     let whole = between(site.text, begin, end);
     let joined = joined_in(alloc, site, begin, end)?;
-    if whole.contains(&b'\n') || !joined.is_changed {
+    if whole.contains(&b'\n') || !joined.is_changed || !are_known(site, begin, end) {
         return Ok(None);
     }
     worded(alloc, begin, whole.len(), &joined.put, " in its place")

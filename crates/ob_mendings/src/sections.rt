@@ -19,7 +19,11 @@ pub fn order_mending(alloc: Global, site: &Site<'_, '_>) -> Result<Option<Mendin
     let (Some(here), Some(end)) = (site.here(), section_end(site.behind)) else {
         return Ok(None);
     };
-    let Some(misplaced) = misplaced_before(site.before, rank(here.kind)) else {
+    let own = rank(here.kind);
+    if own == 0 {
+        return Ok(None);
+    }
+    let Some(misplaced) = misplaced_before(site.before, own) else {
         return Ok(None);
     };
     let begin = if misplaced.joins {
@@ -48,7 +52,7 @@ fn told_of(joins: bool) -> &'static str {
 }
 
 /// Bytes with a blank for each line feed.
-fn in_one_line(alloc: Global, bytes: &[u8]) -> Result<Vec<u8>, AllocError> {
+pub fn in_one_line(alloc: Global, bytes: &[u8]) -> Result<Vec<u8>, AllocError> {
     let mut line = Vec::new(alloc);
     for byte in bytes {
         line.push(if *byte == b'\n' { b' ' } else { *byte })?;
@@ -103,7 +107,7 @@ fn sections_from(first: Option<Token>, joins: bool) -> Option<Misplaced> {
 }
 
 /// How many an END or a `)` closes by this token.
-fn opened(kind: Kind) -> usize {
+pub fn opened(kind: Kind) -> usize {
     match kind {
         Kind::If | Kind::While | Kind::Record | Kind::Procedure | Kind::LeftParen => 1,
         _ => 0,

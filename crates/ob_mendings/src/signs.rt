@@ -4,6 +4,7 @@ use crate::comments::{Run, braced, comment_of, length_of_run, line_before, line_
 use crate::fix::{
     ARROW, ASSIGN, AT_LEAST, AT_MOST, BEGIN_FOR, BYTE, COMMENT, DIV, DO_FOR, END_FOR, Fix, MOD,
     NOT, NOT_EQUAL, ONE, ONE_AND, ONE_EQUAL, OR, THEN_FOR, UNEQUAL, ZERO, changed, fixed, left_out,
+    worded,
 };
 use crate::mending::{Elsewhere, Mending, Told};
 use crate::part::{CONDITIONS, part_at};
@@ -45,6 +46,7 @@ const SIGNS: &[Sign] = signs! {
     b"", b"||" => OR;
     b"", b"|" => OR;
     b"", b"%" => MOD;
+    b"", b"/=" => NOT_EQUAL;
     b"", b"/" => DIV;
 };
 
@@ -79,10 +81,27 @@ pub fn sign_mending(
         [b'/', b'/', behind @ ..] if is_quotient(before, behind) => fixed(alloc, place, 2, DIV),
         [b'/', b'/', ..] => left_out(alloc, place, line_of(from), COMMENT),
         [b'/', b'*', ..] => left_out(alloc, place, comment_of(from), COMMENT),
+        [b'/', b'=', ..] if is_alone(line_before(text, place)) => {
+            divided(alloc, place, line_before(text, place).trim_ascii())
+        }
         [b'|', ..] if ends_line(before) => fixed(alloc, place, 1, BYTE),
         [b'"' | b'\'', ..] => fixed(alloc, place, quoted(from), ZERO),
         _ => whole_mending(alloc, place, first_there(SIGNS, text, place)),
     }
+}
+
+/// Whether a line has one name up to here.
+fn is_alone(line: &[u8]) -> bool {
+    let name = line.trim_ascii();
+    !name.is_empty() && word_at(name).len() == name.len()
+}
+
+/// The mending of `x /= y` as a statement, of this name: it is divided.
+fn divided(alloc: Global, place: usize, name: &[u8]) -> Result<Option<Mending>, AllocError> {
+    let mut put = Vec::from_slice(alloc, b":= ")?;
+    put.extend_from_slice(name)?;
+    put.extend_from_slice(b" DIV ")?;
+    worded(alloc, place, 2, &put, "in its place")
 }
 
 /// Whether an operand stands before a `//`, and behind it a number, or a name and then a mark.

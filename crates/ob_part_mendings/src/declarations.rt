@@ -17,6 +17,7 @@ use ob_mendings::fix::{
 };
 use ob_mendings::mending::{Elsewhere, Mending, Told};
 use ob_mendings::part::is_in_body;
+use ob_mendings::sections::{in_one_line, opened};
 use ob_mendings::tokens::{between, first_behind, first_of, last_before, length_of};
 use ob_scan::{Kind, Token};
 use std::alloc::{AllocError, Global};
@@ -191,6 +192,65 @@ pub fn local_mending(alloc: Global, site: &Site<'_, '_>) -> Result<Option<Mendin
     declared_there(alloc, site, place, left, told)
 }
 
+/// The mending of VAR in a body, with the variables behind it: they stand among the declarations.
+pub fn late_mending(alloc: Global, site: &Site<'_, '_>) -> Result<Option<Mending>, AllocError> {
+    let (Some(var), Some(declaring), Some(end)) = (
+        site.here(),
+        declaring_at(site.before),
+        declared_end(site.behind),
+    ) else {
+        return Ok(None);
+    };
+    if var.kind != Kind::Var || !is_in_body(site.before) {
+        return Ok(None);
+    }
+    let begin = if declaring.is_var { var.end } else { var.start };
+    let mut put = Vec::from_slice(alloc, b" ")?;
+    put.extend_from_slice(&in_one_line(alloc, between(site.text, begin, end))?)?;
+    put.push(b' ')?;
+    let (place, told) = if declaring.is_var {
+        (
+            declaring.token.end,
+            "with what it declares put behind the VAR of line ",
+        )
+    } else {
+        (declaring.token.start, "with this section put before line ")
+    };
+    Ok(Some(Mending {
+        place,
+        taken: 0,
+        put,
+        elsewhere: Elsewhere::Moved(var.start, end.saturating_sub(var.start)),
+        told: Told::Line(told, ""),
+    }))
+}
+
+/// Where the last declaration of variables ends that begins with these tokens.
+fn declared_end(tokens: &[Token]) -> Option<usize> {
+    let mut end = None;
+    let mut inside: usize = 0;
+    let mut is_name = false;
+    let mut is_open = false;
+    for token in tokens {
+        match token.kind {
+            Kind::Record if is_open => inside = inside.saturating_add(1),
+            Kind::End if inside > 0 => inside = inside.saturating_sub(1),
+            Kind::Semicolon if is_open && inside == 0 => {
+                is_open = false;
+                end = Some(token.end);
+            }
+            _ if is_open => {}
+            Kind::Colon | Kind::Comma if is_name => {
+                is_name = false;
+                is_open = true;
+            }
+            Kind::Ident if !is_name => is_name = true,
+            _ => return end,
+        }
+    }
+    end
+}
+
 /// Words of other languages for values that are none.
 const VALUES: [&[u8]; 6] = [b"NONE", b"NULL", b"NIL", b"TRUE", b"FALSE", b"UNDEFINED"];
 
@@ -260,14 +320,6 @@ fn declaring_before(before: Option<Token>) -> Option<Declaring> {
             is_var: false,
         }),
         None => None,
-    }
-}
-
-/// How many an END or a `)` closes by this token.
-fn opened(kind: Kind) -> usize {
-    match kind {
-        Kind::If | Kind::While | Kind::Record | Kind::Procedure | Kind::LeftParen => 1,
-        _ => 0,
     }
 }
 

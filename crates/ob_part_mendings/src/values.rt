@@ -3,6 +3,7 @@
 use itoa::Buffer;
 use ob_evidence::small_keywords::next_behind;
 use ob_evidence::text_site::{Site, is_kind, kind_or_name, rest_of};
+use ob_explain_names::declarations::first_of as first_token;
 use ob_explain_sentences::first_word::{is_same, is_same_in_any_case};
 use ob_explain_sentences::place::halves;
 use ob_mendings::fix::{
@@ -118,7 +119,7 @@ fn too_much(site: &Site<'_, '_>) -> Option<Fix> {
 /// The token before the name behind which the place stands, or behind whose `*`.
 fn heading_of(site: &Site<'_, '_>) -> Option<Token> {
     if is_kind(site.last(), Kind::Times) {
-        second_of(rest_of(site.before))
+        first_token(rest_of(rest_of(site.before)))
     } else {
         site.second()
     }
@@ -126,7 +127,7 @@ fn heading_of(site: &Site<'_, '_>) -> Option<Token> {
 
 /// The mending of the type of a constant, as in `CONST n: INTEGER = 5`: without it.
 pub fn typed_mending(alloc: Global, site: &Site<'_, '_>) -> Result<Option<Mending>, AllocError> {
-    let value = second_of(site.behind);
+    let value = first_token(rest_of(site.behind));
     match (site.here(), site.next()) {
         (Some(colon), Some(named))
             if colon.kind == Kind::Colon
@@ -141,17 +142,9 @@ pub fn typed_mending(alloc: Global, site: &Site<'_, '_>) -> Result<Option<Mendin
     }
 }
 
-/// The second of these tokens.
-fn second_of(tokens: &[Token]) -> Option<Token> {
-    match tokens {
-        [_, second, ..] => Some(*second),
-        _ => None,
-    }
-}
-
 /// The mending of `x: OUT INTEGER` in a heading: VAR stands before the name.
 pub fn out_mending(alloc: Global, site: &Site<'_, '_>) -> Result<Option<Mending>, AllocError> {
-    match (site.last(), second_of(rest_of(site.before))) {
+    match (site.last(), first_token(rest_of(rest_of(site.before)))) {
         (Some(out), Some(name))
             if is_out(site.word_of(Some(out)))
                 && name.kind == Kind::Ident
@@ -175,30 +168,37 @@ fn is_out(word: &[u8]) -> bool {
         || is_same_in_any_case(word, b"BYREF")
 }
 
-/// The mending of `a: INTEGER[4]`: the type of an array.
+/// The mending of `a: INTEGER[4]`, or `a: [4]INTEGER`: the type of an array.
 pub fn length_mending(alloc: Global, site: &Site<'_, '_>) -> Result<Option<Mending>, AllocError> {
-    match (
+    let ends = &[Kind::RightBracket, Kind::Semicolon];
+    let (Some(open), Some(last), Some(close)) = (
         site.here(),
         site.last(),
-        first_of(site.behind, &[Kind::RightBracket, Kind::Semicolon]),
-    ) {
-        (Some(open), Some(named), Some(close))
-            if open.kind == Kind::LeftBracket
-                && named.kind == Kind::Ident
-                && close.kind == Kind::RightBracket
-                && is_kind(site.second(), Kind::Colon)
-                && !is_in_body(site.before) => {
-            let length = between(site.text, open.end, close.start);
-            let length = if length.is_empty() { b"1" } else { length };
-            let mut put = Vec::from_slice(alloc, b"ARRAY ")?;
-            put.extend_from_slice(length)?;
-            put.extend_from_slice(b" OF ")?;
-            put.extend_from_slice(site.word_of(Some(named)))?;
-            let taken = close.end.saturating_sub(named.start);
-            worded(alloc, named.start, taken, &put, " in its place")
-        }
-        _ => Ok(None),
+        first_of(site.behind, ends),
+    ) else {
+        return Ok(None);
+    };
+    if open.kind != Kind::LeftBracket
+        || close.kind != Kind::RightBracket
+        || is_in_body(site.before)
+    {
+        return Ok(None);
     }
+    let (first, element, told): (Token, &[u8], &'static str) = match last.kind {
+        Kind::Ident if is_kind(site.second(), Kind::Colon) => {
+            (last, site.word_of(Some(last)), " in its place")
+        }
+        Kind::Colon | Kind::Equal | Kind::Of => (open, b"", "in its place"),
+        _ => return Ok(None),
+    };
+    let length = between(site.text, open.end, close.start);
+    let length = if length.is_empty() { b"1" } else { length };
+    let mut put = Vec::from_slice(alloc, b"ARRAY ")?;
+    put.extend_from_slice(length)?;
+    put.extend_from_slice(b" OF ")?;
+    put.extend_from_slice(element)?;
+    let taken = close.end.saturating_sub(first.start);
+    worded(alloc, first.start, taken, &put, told)
 }
 
 /// The mending of `x: VAR INTEGER` in a heading: VAR stands before the name.

@@ -1,6 +1,7 @@
 //! What ends a module, a procedure or a construct: an END or a name that is missing, an END too many, and the `.` at the end.
 
 use crate::words::is_new;
+use ob_clues::procedure_names::next_ended;
 use ob_evidence::nearest_names::leads_to_statement;
 use ob_evidence::small_keywords::next_behind;
 use ob_evidence::text_site::{Site, is_kind, kind_or_name, rest_of};
@@ -204,12 +205,4 @@ fn is_import(site: &Site<'_, '_>, token: Option<Token>) -> bool {
 /// The name of a module or of a procedure that begins with this token.
 fn name_of<'t>(site: &Site<'t, '_>, unit: Token) -> &'t [u8] {
     site.word_of(next_behind(site.tokens, unit.start))
-}
-
-/// The name behind the next END behind the place.
-fn next_ended<'t>(site: &Site<'t, '_>) -> &'t [u8] {
-    match first_of(site.behind, &[Kind::End]) {
-        Some(end) => site.word_of(next_behind(site.tokens, end.start)),
-        None => b"",
-    }
 }

@@ -3,15 +3,16 @@
 use ob_evidence::text_site::{Site, is_kind, kind_of, rest_of};
 use ob_explain_names::declarations::first_of;
 use ob_explain_names::expected::expected_kinds;
-use ob_explain_sentences::first_word::is_same;
+use ob_explain_sentences::first_word::{is_same, is_same_in_any_case};
 use ob_explain_sentences::place::halves;
 use ob_explain_tokens::open::is_in_record;
 use ob_explain_words::declaring::declares;
 use ob_mendings::fix::{
     BEGIN_BEFORE, BEGIN_NAME, BRACKET_BEFORE, COLON, COLON_BEFORE, COMMA_BEFORE, COMMA_THERE,
-    CONST_BEFORE, DO, DO_BEFORE, END_LEFT_OUT, EQUAL, EXPORT, Fix, INDEX, NOTHING, OF_ARRAY,
-    OF_BEFORE, PAREN_BEFORE, SEMICOLON, SEMICOLON_THERE, THEN, THEN_BEFORE, TYPE_BEFORE, TYPE_NAME,
-    TYPE_SECTION, UNTIL_WORD, VAR_BEFORE, VAR_NAME, bytes_of, fixed, put, told_at_end,
+    CONST_BEFORE, DO, DO_BEFORE, END_LEFT_OUT, EQUAL, EQUAL_BEFORE, EXPORT, Fix, INDEX, LEFT_PAREN,
+    NOTHING, OF_ARRAY, OF_BEFORE, OF_TYPE, PAREN_BEFORE, SEMICOLON, SEMICOLON_THERE, THEN,
+    THEN_BEFORE, TYPE_BEFORE, TYPE_NAME, TYPE_SECTION, UNTIL_WORD, VAR_BEFORE, VAR_NAME, bytes_of,
+    fixed, put, told_at_end,
 };
 use ob_mendings::mending::{Mending, Told};
 use ob_mendings::part::is_in_body;
@@ -33,8 +34,8 @@ struct Mark {
 }
 
 /// What else is asked for: that a line ends before the place, that the text does not declare the name before it, or does, that it declares the
-/// one there, or does not, that a `)` comes before another statement, that the place stands in no record and in no body, or so with a type behind
-/// what comes next.
+/// one there, or does not, that this is LOOP, that a `)` comes before another statement, that behind what comes next stands an UNTIL, or what stands behind the name in a
+/// declaration, that the place stands in no record and in no body, or so with a type behind what comes next.
 #[derive(Clone, Copy)]
 enum Asked {
     Nothing,
@@ -44,6 +45,9 @@ enum Asked {
     Known,
     Unknown,
     Closed,
+    Until,
+    Loop,
+    Named,
     Outside,
     Typed,
 }
@@ -94,11 +98,13 @@ const MARKS: &[Mark] = marks! {
     // `WHILE x > 1 DOO x := 2`
     &[], Unknown, &[Kind::Ident], &[Kind::Ident, Kind::If, Kind::While, Kind::Repeat], Kind::Do => There DO;
     &[], Nothing, &[Kind::Colon, Kind::Then, Kind::Begin], &[], Kind::Do => There DO;
+    &[], Loop, &[Kind::Ident], &[], Kind::Do => There DO;
     &[], Nothing, &[Kind::Semicolon], &[Kind::Do], Kind::Do => There NOTHING;
     // `IF x > 1 THEN BEGIN`
     &[Kind::Then, Kind::Else, Kind::Do, Kind::Repeat], Nothing, &[Kind::Begin], &[], Kind::If => There NOTHING;
-    // `REPEAT .. END UNTIL b`, `REPEAT .. END`
+    // `REPEAT .. END UNTIL b`, `REPEAT .. END; UNTIL b`, `REPEAT .. END`
     &[], Nothing, &[Kind::End], &[Kind::Until], Kind::Until => There NOTHING;
+    &[], Until, &[Kind::End], &[Kind::Semicolon], Kind::Until => There NOTHING;
     &[], Nothing, &[Kind::End], &[], Kind::Until => There UNTIL_WORD;
     // `a[i, j]`, `ARRAY 4, 5 OF INTEGER`
     &[], Nothing, &[Kind::Comma], &[], Kind::RightBracket => There INDEX;
@@ -117,14 +123,18 @@ const MARKS: &[Mark] = marks! {
     &[Kind::If, Kind::Elsif, Kind::While, Kind::Until], Nothing, &[Kind::Assign], &[], Kind::Equal => There EQUAL;
     &[Kind::Const, Kind::Semicolon], Nothing, &[Kind::Colon], &[Kind::Number, Kind::Minus], Kind::Equal => There EQUAL;
     &[Kind::Type], Nothing, &[Kind::Colon], &[Kind::Array, Kind::Record, Kind::Type], Kind::Equal => There EQUAL;
+    // `CONST n 5`, `TYPE T ARRAY 4 OF INTEGER`
+    &[Kind::Const, Kind::Type, Kind::Semicolon], Outside, &[Kind::Number, Kind::Minus, Kind::Array, Kind::Record, Kind::Type], &[],
+        Kind::Equal => Before EQUAL_BEFORE;
     // `VAR x INTEGER`, `VAR x := INTEGER`, `VAR x = INTEGER`, `VAR x y: INTEGER`
     &[], Nothing, &[Kind::Array, Kind::Record, Kind::Type], &[], Kind::Colon => Before COLON_BEFORE;
     &[], Nothing, &[Kind::Assign, Kind::Equal], &[Kind::Type], Kind::Colon => There COLON;
     &[Kind::Var, Kind::Record, Kind::Comma], Nothing, &[Kind::Assign, Kind::Equal], &[Kind::Array, Kind::Record], Kind::Colon => There COLON;
     &[Kind::Var, Kind::Record, Kind::Comma, Kind::Semicolon, Kind::LeftParen], Nothing, &[Kind::Ident], &[Kind::Colon, Kind::Comma], Kind::Colon => Before COMMA_BEFORE;
     &[Kind::Var, Kind::Comma, Kind::Semicolon, Kind::LeftParen], Known, &[Kind::Ident], &[Kind::Semicolon, Kind::RightParen], Kind::Colon => Before COLON_BEFORE;
-    // `ARRAY 4 INTEGER`, `a[i := 2`
+    // `ARRAY 4 INTEGER`, `ARRAY 4;`, `a[i := 2`
     &[], Nothing, &[Kind::Ident, Kind::Array, Kind::Record, Kind::Type], &[], Kind::Of => Before OF_BEFORE;
+    &[], Nothing, &[Kind::Semicolon, Kind::RightParen, Kind::End], &[], Kind::Of => Before OF_TYPE;
     &[], Nothing, &[Kind::Assign, Kind::Then, Kind::Do, Kind::Semicolon, Kind::End, Kind::RightParen], &[], Kind::RightBracket => Before BRACKET_BEFORE;
     // `VAR x, y;`, `PROCEDURE P(x, y)`
     &[], Nothing, &[Kind::Semicolon, Kind::RightParen], &[], Kind::Colon => Before TYPE_BEFORE;
@@ -139,13 +149,21 @@ const MARKS: &[Mark] = marks! {
     &[Kind::Semicolon], Outside, &[Kind::Comma], &[Kind::Ident], Kind::Equal => Last VAR_NAME;
     &[Kind::Semicolon], Old, &[Kind::Assign, Kind::LeftBracket, Kind::Dot], &[], Kind::Colon => Last BEGIN_NAME;
     &[Kind::Semicolon], Old, &[Kind::Assign, Kind::LeftBracket, Kind::Dot], &[], Kind::Equal => Last BEGIN_NAME;
+    // `VAR: x: INTEGER`, `CONST;`
+    &[Kind::Const, Kind::Type, Kind::Var], Named, &[Kind::Colon], &[Kind::Ident], Kind::Ident => There NOTHING;
+    &[Kind::Const, Kind::Type, Kind::Var], Nothing, &[Kind::Semicolon], &[], Kind::Ident => There NOTHING;
+    // `VAR x: INTEGER;; y: BOOLEAN`, `END P;; BEGIN`
+    &[Kind::Semicolon], Outside, &[Kind::Semicolon], &[], Kind::Begin => There NOTHING;
     // a second VAR
     &[Kind::Semicolon, Kind::Comma], Outside, &[Kind::Var], &[Kind::Ident], Kind::Ident => There NOTHING;
-    // `VAR x: INTEGER, y: INTEGER`, `CONST n = 5, m = 6`
+    // `VAR x: INTEGER, y: INTEGER`, `CONST n = 5, m = 6`, `VAR x: INTEGER. BEGIN`
     &[Kind::Type, Kind::Colon, Kind::Of, Kind::Equal], Nothing, &[Kind::Comma], &[], Kind::Semicolon => There SEMICOLON_THERE;
-    // `END IF;`
+    &[Kind::Type, Kind::Colon, Kind::Of, Kind::Equal], Nothing, &[Kind::Dot],
+        &[Kind::Ident, Kind::Const, Kind::Var, Kind::Procedure, Kind::Begin, Kind::End], Kind::Semicolon => There SEMICOLON_THERE;
+    // `END IF;`, `END LOOP;`
     &[Kind::End], Nothing, &[Kind::If, Kind::While, Kind::Repeat], &[Kind::Semicolon, Kind::End, Kind::Else, Kind::Elsif], Kind::Semicolon =>
         There NOTHING;
+    &[Kind::End], Loop, &[Kind::Ident], &[Kind::Semicolon, Kind::End, Kind::Else, Kind::Elsif], Kind::Semicolon => There NOTHING;
     // `END P,`, `MODULE M:`, and `PROCEDURE P(x: INTEGER): BEGIN`, where no type of a result is meant
     &[Kind::End, Kind::Module], Nothing, &[Kind::Colon, Kind::Comma],
         &[Kind::Ident, Kind::If, Kind::While, Kind::Repeat, Kind::Const, Kind::Var, Kind::Procedure, Kind::Begin, Kind::End], Kind::Semicolon =>
@@ -163,10 +181,13 @@ const MARKS: &[Mark] = marks! {
     // `x := a[i]]`, `P(1))`, `IF (x > 1)) THEN`
     &[], Nothing, &[Kind::RightParen, Kind::RightBracket], &[], Kind::And => There NOTHING;
     &[Kind::RightParen], Nothing, &[Kind::RightParen], &[], Kind::Semicolon => There NOTHING;
-    // `x := 1 y := 2`, `PROCEDURE P(x: INTEGER) BEGIN`
+    // `PROCEDURE P VAR x: INTEGER);`, `P 1);`
+    &[], Closed, &[Kind::Var, Kind::Ident, Kind::Number], &[], Kind::LeftParen => Before LEFT_PAREN;
+    // `MODULE M VAR x: INTEGER`, `CONST n = 5 VAR x: INTEGER`, `PROCEDURE P(x: INTEGER) BEGIN`
+    &[], Outside, &[Kind::Const, Kind::Type, Kind::Var, Kind::Procedure, Kind::Begin], &[], Kind::Semicolon => Semicolon SEMICOLON;
+    // `x := 1 y := 2`
     &[Kind::Assign, Kind::Plus, Kind::Minus, Kind::Times, Kind::Div, Kind::Mod, Kind::RightBracket, Kind::End], Nothing, &[Kind::Ident],
         &[Kind::Assign], Kind::Semicolon => Semicolon SEMICOLON;
-    &[Kind::RightParen], Nothing, &[Kind::Const, Kind::Var, Kind::Procedure, Kind::Begin], &[], Kind::Semicolon => Semicolon SEMICOLON;
 };
 
 /// The mending by a mark that stands around the place.
@@ -212,6 +233,12 @@ fn holds_there(site: &Site<'_, '_>, asked: Asked) -> bool {
                 && !declares(site.text, site.tokens, site.word())
         }
         Asked::Closed => is_kind(first_kind(site.behind, STATEMENT), Kind::RightParen),
+        Asked::Until => is_kind(first_of(rest_of(site.behind)), Kind::Until),
+        Asked::Loop => is_same_in_any_case(site.word(), b"LOOP"),
+        Asked::Named => is_asked(
+            &[Kind::Colon, Kind::Comma, Kind::Equal],
+            kind_of(first_of(rest_of(site.behind))),
+        ),
         Asked::Outside => is_outside(site),
         Asked::Typed => is_outside(site)
             && is_asked(TYPES, kind_in(site, first_of(rest_of(site.behind)))),

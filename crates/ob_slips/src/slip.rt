@@ -14,6 +14,7 @@ use ob_check::TextFault;
 use ob_evidence::small_keywords::first_of_statement;
 use ob_evidence::text_site::{Site, is_kind, look_around};
 use ob_explain_names::expected::expected_kinds;
+use ob_explain_sentences::first_word::word_at;
 use ob_explain_sentences::place::halves;
 use ob_mendings::comments::{comment_mending, line_mending, word_mending, words_mending};
 use ob_mendings::fix::{SEMICOLON_THERE, fixed};
@@ -31,8 +32,8 @@ use ob_part_mendings::constructs::{
     whole_mending,
 };
 use ob_part_mendings::declarations::{
-    declared_mending, initial_mending, listed_mending, local_mending, parameter_mending,
-    twice_mending,
+    declared_mending, initial_mending, late_mending, listed_mending, local_mending,
+    parameter_mending, twice_mending,
 };
 use ob_part_mendings::headings::{
     export_mending, heading_mending, late_star_mending, star_mending,
@@ -118,13 +119,14 @@ enum Sort {
     /// A 0 or a 1 for FALSE or TRUE, and an END that is missing before another one.
     Truth,
     Inner,
-    /// A name of another level. A block that ends before an ELSE, a CASE, there or at a `|` in it, a FOR of another form, a variable declared where it is assigned first, an assignment of nothing, and
-    /// the whole body.
+    /// A name of another level. A block that ends before an ELSE, a CASE, there or at a `|` in it, a FOR of another form, a variable declared
+    /// where it is assigned first, a VAR in a body, an assignment of nothing, and the whole body.
     Block,
     Whole,
     Bar,
     Loop,
     Local,
+    Late,
     Empty,
     Level,
     Body,
@@ -143,6 +145,7 @@ const OF_TOKENS: &[Sort] = &[
     Sort::Block,
     Sort::Whole,
     Sort::Local,
+    Sort::Late,
     Sort::Line,
     Sort::Import,
     Sort::Dot,
@@ -311,6 +314,7 @@ fn mending_of(
         Sort::Bar => bar_mending(alloc, site.text, site.place),
         Sort::Loop => loop_mending(alloc, site),
         Sort::Local => local_mending(alloc, site),
+        Sort::Late => late_mending(alloc, site),
         Sort::Empty => empty_mending(alloc, site),
         Sort::Level => level_mending(alloc, site),
         Sort::Body => body_mending(alloc, site),
@@ -352,16 +356,28 @@ fn helps(
 ) -> Result<bool, AllocError> {
     let whole = mended(alloc, text, mending)?;
     match verdict(alloc, &whole)? {
-        Some(next) => Ok(is_further(mending.moves(), fault, next) && !is_moved(mending, next)),
+        Some(next) => Ok(
+            is_further(mending.moves(), fault, next) && is_shown(text, &whole, mending, next),
+        ),
         None => Ok(true),
     }
 }
 
-/// Whether a fault stands in what a mending moved, so that its place in the own text isn't known.
-fn is_moved(mending: &Mending, fault: TextFault) -> bool {
-    match (mending.told, place_of(fault)) {
-        (Told::Line(_, _), Some(place)) => origin(mending.moves(), place) == mending.place,
-        _ => false,
+/// Whether the place at which a fault of the text with a mending is shown in the text is its own: not in what the mending moved, and in what it
+/// writes anew only at the first byte, or at the word that stood there.
+fn is_shown(text: &[u8], whole: &[u8], mending: &Mending, fault: TextFault) -> bool {
+    let Some(place) = place_of(fault) else {
+        return false;
+    };
+    if origin(mending.moves(), place) != mending.place {
+        return true;
+    }
+    let word = word_at(halves(whole, place).1);
+    let own = word_at(halves(text, mending.place).1);
+    match mending.told {
+        Told::Line(_, _) => false,
+        Told::Put(_) => place == mending.place || !word.is_empty() && word == own,
+        Told::Words(_) => true,
     }
 }
 

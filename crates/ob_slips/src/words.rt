@@ -1,6 +1,7 @@
 //! Words of other languages that are slips, keywords in small letters or misspelt, and words that stand alone as a statement, where they are
 //! read as a call.
 
+use ob_clues::procedure_names::is_procedure;
 use ob_diagnosis::keywords::{keyword_before, keyword_first, keyword_there};
 use ob_evidence::lone_names::lone_end;
 use ob_evidence::nearest_names::leads_to_statement;
@@ -9,7 +10,6 @@ use ob_evidence::text_site::{Site, is_kind, kind_or_name, rest_of};
 use ob_explain_names::declarations::first_of;
 use ob_explain_sentences::first_word::is_same_in_any_case;
 use ob_explain_sentences::kinds::sample;
-use ob_explain_sentences::place::halves;
 use ob_explain_tokens::open::{is_in_record, open_construct};
 use ob_explain_tokens::parens::is_in_parens;
 use ob_explain_words::declaring::declares;
@@ -17,10 +17,11 @@ use ob_mendings::capitals::small_words;
 use ob_mendings::fix::{
     AND_WORD, BOOLEAN, ELSIF_WORD, END_WORD, Fix, INTEGER, LOOP_WORD, MODULE_WORD, NOT_WORD,
     POINTER, PROCEDURE_THERE, PROCEDURE_WORD, SEMICOLON_THERE, UNEQUAL_WORD, VAR_THERE, VAR_WORD,
-    WORD_BEFORE, changed, fixed, worded,
+    WORD_BEFORE, bytes_of, changed, fixed, worded,
 };
 use ob_mendings::mending::{Elsewhere, Mending, Told};
 use ob_mendings::part::{ENDS, is_in_body};
+use ob_mendings::rewritten::are_known;
 use ob_mendings::tokens::{between, first_of as token_of, last_before, length_of};
 use ob_scan::{Kind, Token};
 use std::alloc::{AllocError, Global};
@@ -167,7 +168,11 @@ fn capital_mending(
 ) -> Result<Option<Mending>, AllocError> {
     let small = small_words(alloc, site.text)?;
     if small.len() > 1 && stands_among(&small, name) {
-        let all = "with the words of the language in capitals";
+        let all = if has_truth(site, &small) {
+            "with the words of the language in capitals, TRUE and FALSE among them"
+        } else {
+            "with the words of the language in capitals"
+        };
         return Ok(Some(changed(alloc, site.place, Elsewhere::Capitals, all)));
     }
     Ok(Some(Mending {
@@ -177,6 +182,17 @@ fn capital_mending(
         elsewhere: Elsewhere::Nothing,
         told,
     }))
+}
+
+/// Whether one of these tokens is TRUE or FALSE.
+fn has_truth(site: &Site<'_, '_>, tokens: &[Token]) -> bool {
+    for token in tokens {
+        let word = site.word_of(Some(*token));
+        if is_same_in_any_case(word, b"TRUE") || is_same_in_any_case(word, b"FALSE") {
+            return true;
+        }
+    }
+    false
 }
 
 /// Whether a token is one of these.
@@ -303,12 +319,12 @@ pub(crate) fn prefix_mending(
     alloc: Global,
     site: &Site<'_, '_>,
 ) -> Result<Option<Mending>, AllocError> {
-    if let Some(heading) = heading_there(site) {
-        return fixed(alloc, site.place, length_of(site.here()), heading);
-    }
     let (Some(name), Some(here)) = (site.last(), site.here()) else {
         return Ok(None);
     };
+    if let Some(heading) = heading_there(site) {
+        return heading_with(alloc, site, here, heading);
+    }
     let word = site.word_of(Some(name));
     let is_heading = is_kind(site.second(), Kind::Procedure);
     if here.kind != Kind::Ident || is_in_body(site.before) || !is_heading && !is_new(site, name) {
@@ -317,7 +333,7 @@ pub(crate) fn prefix_mending(
     if let Some(heading) = first_same(HEADINGS, word)
         && type_meant(site.word()).is_none()
     {
-        return fixed(alloc, name.start, length_of(Some(name)), heading.fix);
+        return heading_with(alloc, site, name, heading.fix);
     }
     match first_same(PREFIXES, word) {
         Some(prefix) if ends_name(site.next()) && !is_kind(site.second(), Kind::Colon) => fixed(
@@ -328,6 +344,45 @@ pub(crate) fn prefix_mending(
         ),
         _ => Ok(None),
     }
+}
+
+/// The mending that puts PROCEDURE for a word; the type of a result behind the heading is left out too.
+fn heading_with(
+    alloc: Global,
+    site: &Site<'_, '_>,
+    word: Token,
+    fix: Fix,
+) -> Result<Option<Mending>, AllocError> {
+    match result_in(site.behind) {
+        Some((begin, end)) => Ok(Some(Mending {
+            place: word.start,
+            taken: length_of(Some(word)),
+            put: Vec::from_slice(alloc, bytes_of(fix))?,
+            elsewhere: Elsewhere::Moved(begin, end.saturating_sub(begin)),
+            told: Told::Words("with PROCEDURE for the word, and the type of its result left out"),
+        })),
+        None => fixed(alloc, word.start, length_of(Some(word)), fix),
+    }
+}
+
+/// Where the type of a result begins, with its `:`, and ends, in the heading that goes on with these tokens.
+fn result_in(tokens: &[Token]) -> Option<(usize, usize)> {
+    let mut inside: usize = 0;
+    let mut colon: Option<Token> = None;
+    let mut end: Option<usize> = None;
+    for token in tokens {
+        match (token.kind, colon, end) {
+            (Kind::Semicolon, Some(colon), Some(end)) => return Some((colon.start, end)),
+            (Kind::Ident, Some(_), None) => end = Some(token.end),
+            (_, Some(_), _) => return None,
+            (Kind::LeftParen, None, _) => inside = inside.saturating_add(1),
+            (Kind::RightParen, None, _) => inside = inside.saturating_sub(1),
+            (Kind::Colon, None, _) if inside == 0 => colon = Some(*token),
+            (Kind::Semicolon | Kind::Begin | Kind::End, None, _) if inside == 0 => return None,
+            _ => {}
+        }
+    }
+    None
 }
 
 /// PROCEDURE, if a word of another language for it stands at the place, before a name.
@@ -439,7 +494,10 @@ fn bracketed(
         return Ok(None);
     };
     let name = site.word_of(Some(last));
-    if is_procedure(site, name) || !declares(site.text, site.tokens, name) {
+    if is_procedure(site, site.tokens, name)
+        || !declares(site.text, site.tokens, name)
+        || !are_known(site, open.end, close.start)
+    {
         return Ok(None);
     }
     let mut put = Vec::from_slice(alloc, name)?;
@@ -448,18 +506,6 @@ fn bracketed(
     put.push(b']')?;
     let taken = close.end.saturating_sub(last.start);
     worded(alloc, last.start, taken, &put, " in its place")
-}
-
-/// Whether the text has a procedure of this name.
-fn is_procedure(site: &Site<'_, '_>, name: &[u8]) -> bool {
-    let mut is_heading = false;
-    for token in site.tokens {
-        if is_heading && site.word_of(Some(*token)) == name {
-            return true;
-        }
-        is_heading = token.kind == Kind::Procedure;
-    }
-    false
 }
 
 /// The mending of `POINTER TO` before a type.
