@@ -124,8 +124,8 @@ declaration of the variable and its selectors up to there.
   MODULE M; PROCEDURE P; END P; BEGIN P := 1 END M.
     C3 at 36
     this is a procedure, and a variable is needed here
-    hint: there are no functions; a procedure gives its results by VAR
-      parameters, and a call of it is a statement
+    hint: there are no functions; a procedure gives its result by a VAR
+      parameter: assign to that
   MODULE M; VAR x: INTEGER; BEGIN x END M.
     C3 at 32
     this is a variable, and a procedure is needed here

@@ -323,7 +323,20 @@ fn declaring_before(before: Option<Token>) -> Option<Declaring> {
     }
 }
 
-/// Whether the name at the place stands somewhere as a condition, or is assigned one.
+/// Where the body around the place begins, and the next procedure behind it.
+fn body_around(site: &Site<'_, '_>) -> (usize, usize) {
+    let begin = match first_of(site.before, &[Kind::Begin]) {
+        Some(begin) => begin.start,
+        None => 0,
+    };
+    let end = match first_of(site.behind, &[Kind::Procedure]) {
+        Some(procedure) => procedure.start,
+        None => site.text.len(),
+    };
+    (begin, end)
+}
+
+/// Whether the name at the place stands somewhere in the body as a condition, or is assigned one.
 fn is_truth(site: &Site<'_, '_>) -> bool {
     let mut passed = Passed {
         before: Kind::Module,
@@ -331,7 +344,11 @@ fn is_truth(site: &Site<'_, '_>) -> bool {
         is_name: false,
         is_assigned: false,
     };
+    let (begin, end) = body_around(site);
     for token in site.tokens {
+        if token.start < begin || end <= token.start {
+            continue;
+        }
         if passed.tells_condition(site, *token) {
             return true;
         }
@@ -359,7 +376,9 @@ impl Passed {
             Kind::Then | Kind::Do | Kind::And | Kind::Or => self.is_name
                 && begins_condition(self.before),
             Kind::Assign => false,
-            _ => self.is_name && matches!(self.before, Kind::Not | Kind::Until),
+            _ => self.is_name
+                && matches!(self.before, Kind::Not | Kind::Until)
+                && !goes_on(token.kind),
         }
     }
 
@@ -373,6 +392,21 @@ impl Passed {
                 || self.is_assigned && !ends_statement(token.kind),
         }
     }
+}
+
+/// Whether an operand goes on with a token, or is compared.
+fn goes_on(kind: Kind) -> bool {
+    is_relation(kind)
+        || matches!(
+            kind,
+            Kind::Plus
+                | Kind::Minus
+                | Kind::Times
+                | Kind::Div
+                | Kind::Mod
+                | Kind::LeftBracket
+                | Kind::Dot
+        )
 }
 
 /// Whether a token shows that what it stands in is a condition.

@@ -7,7 +7,8 @@ use ob_explain_names::declarations::first_of as first_token;
 use ob_explain_sentences::first_word::{is_same, is_same_in_any_case};
 use ob_explain_sentences::place::halves;
 use ob_mendings::fix::{
-    BEGIN_COLON, FALSE, Fix, INITIAL, LENGTH, RESULT, TRUE, TYPE, VALUE, fixed, left_out, worded,
+    BEGIN_COLON, FALSE, Fix, INITIAL, LENGTH, RESULT, TRUE, TYPE, VALUE, WORD_BEFORE, fixed,
+    left_out, worded,
 };
 use ob_mendings::mending::Mending;
 use ob_mendings::part::is_in_body;
@@ -142,7 +143,7 @@ pub fn typed_mending(alloc: Global, site: &Site<'_, '_>) -> Result<Option<Mendin
     }
 }
 
-/// The mending of `x: OUT INTEGER` in a heading: VAR stands before the name.
+/// The mending of `x: OUT INTEGER` in a heading, where VAR stands before the name, and of `x: IN INTEGER`.
 pub fn out_mending(alloc: Global, site: &Site<'_, '_>) -> Result<Option<Mending>, AllocError> {
     match (site.last(), first_token(rest_of(rest_of(site.before)))) {
         (Some(out), Some(name))
@@ -155,6 +156,13 @@ pub fn out_mending(alloc: Global, site: &Site<'_, '_>) -> Result<Option<Mending>
             put.push(b':')?;
             let taken = out.end.saturating_sub(name.start);
             worded(alloc, name.start, taken, &put, " in its place")
+        }
+        (Some(word), _)
+            if is_same_in_any_case(site.word_of(Some(word)), b"IN")
+                && is_kind(site.second(), Kind::Colon)
+                && is_kind(site.here(), Kind::Ident)
+                && !is_out(site.word()) => {
+            fixed(alloc, word.start, length_of(Some(word)), WORD_BEFORE)
         }
         _ => Ok(None),
     }
@@ -230,13 +238,33 @@ pub fn truth_mending(alloc: Global, site: &Site<'_, '_>) -> Result<Option<Mendin
     }
 }
 
+/// The bracket that closes this one, if no `..` stands between them.
+fn bracket_around(site: &Site<'_, '_>, open: Token) -> Option<Token> {
+    let ends = &[Kind::RightBracket, Kind::Dot, Kind::Semicolon];
+    let close = first_behind(site.tokens, open.start, ends)?;
+    let is_pair = open.kind == Kind::LeftBracket && close.kind == Kind::RightBracket;
+    if is_pair && open.end < close.start {
+        Some(close)
+    } else {
+        None
+    }
+}
+
 /// The mending of a length that is written as the first and the last index, as `[0..9]`: their number.
 pub fn range_mending(alloc: Global, site: &Site<'_, '_>) -> Result<Option<Mending>, AllocError> {
     let Some(gap) = gap_at(site) else {
         return Ok(None);
     };
-    let first = first_behind(site.tokens, gap.leader.start, &[Kind::Number]);
     let begin = next_behind(site.tokens, gap.leader.start);
+    if let Some(open) = begin
+        && let Some(close) = bracket_around(site, open)
+        && gap.leader.kind == Kind::Array
+    {
+        let length = between(site.text, open.end, close.start);
+        let taken = close.end.saturating_sub(open.start);
+        return worded(alloc, open.start, taken, length, " in its place");
+    }
+    let first = first_behind(site.tokens, gap.leader.start, &[Kind::Number]);
     let (Some(begin), Some(first)) = (begin, first) else {
         return Ok(None);
     };

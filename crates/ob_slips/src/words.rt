@@ -325,6 +325,10 @@ pub(crate) fn prefix_mending(
     if let Some(heading) = heading_there(site) {
         return heading_with(alloc, site, here, heading);
     }
+    if let Some(last) = variable_there(site) {
+        let length = last.end.saturating_sub(here.start);
+        return fixed(alloc, here.start, length, VAR_THERE);
+    }
     let word = site.word_of(Some(name));
     let is_heading = is_kind(site.second(), Kind::Procedure);
     if here.kind != Kind::Ident || is_in_body(site.before) || !is_heading && !is_new(site, name) {
@@ -343,6 +347,23 @@ pub(crate) fn prefix_mending(
             prefix.fix,
         ),
         _ => Ok(None),
+    }
+}
+
+/// The last of the words that stand for VAR at the place, as `let` or `let mut`, before a name and what stands behind one in a declaration.
+fn variable_there(site: &Site<'_, '_>) -> Option<Token> {
+    let (here, next) = (site.here()?, site.next()?);
+    let word = site.word();
+    let is_var = is_same_in_any_case(word, b"LET") || is_same_in_any_case(word, b"DIM");
+    if !is_var || next.kind != Kind::Ident || is_in_body(site.before) {
+        return None;
+    }
+    let is_second = is_same_in_any_case(site.word_of(Some(next)), b"MUT");
+    let behind = kind_or_name(first_of(rest_of(site.behind)));
+    match behind {
+        Kind::Ident if is_second => Some(next),
+        Kind::Colon | Kind::Comma | Kind::Assign | Kind::Equal => Some(here),
+        _ => None,
     }
 }
 
