@@ -87,23 +87,46 @@ fn blocks_behind(open: usize, kind: Kind) -> usize {
     }
 }
 
-/// Whether a constant or a type of this name is declared among these tokens.
-pub fn declares_other(site: &Site<'_, '_>, tokens: &[Token], word: &[u8]) -> bool {
-    let mut begins = false;
-    let mut is_named = false;
-    for token in tokens {
-        if is_named && token.kind == Kind::Equal {
-            return true;
+/// The name of a constant, a type or a procedure that is this word, where it is declared behind the place.
+pub fn declared_below(site: &Site<'_, '_>, word: &[u8]) -> Option<Token> {
+    let mut last = Kind::Module;
+    let mut named: Option<Token> = None;
+    for token in site.behind {
+        if named.is_some() && token.kind == Kind::Equal {
+            return named;
         }
-        is_named = begins && !word.is_empty() && site.word_of(Some(*token)) == word;
-        begins = matches!(token.kind, Kind::Semicolon | Kind::Const | Kind::Type);
+        let is_word = !word.is_empty() && site.word_of(Some(*token)) == word;
+        if is_word && last == Kind::Procedure {
+            return Some(*token);
+        }
+        let begins = matches!(last, Kind::Semicolon | Kind::Const | Kind::Type);
+        named = if is_word && begins {
+            Some(*token)
+        } else {
+            None
+        };
+        last = token.kind;
     }
-    false
+    None
 }
 
 /// Whether a word is the name of a type, of this text or of a language.
 pub fn is_type(site: &Site<'_, '_>, word: &[u8]) -> bool {
     is_type_name(word) || declares_type(site, word)
+}
+
+/// Whether a `[` stands there, and a type behind the `]` that closes it.
+pub fn is_before_type(site: &Site<'_, '_>) -> bool {
+    let mut last = Kind::LeftBracket;
+    for token in site.behind {
+        if last == Kind::RightBracket {
+            return is_kind(site.here(), Kind::LeftBracket)
+                && (matches!(token.kind, Kind::Array | Kind::Record)
+                    || is_type(site, site.word_of(Some(*token))));
+        }
+        last = token.kind;
+    }
+    false
 }
 
 /// Whether a type of this name is declared in the text.

@@ -5,6 +5,7 @@ use crate::further::is_type;
 use crate::procedure_names::{is_procedure, lists, stands_before};
 use ob_evidence::text_site::{Site, is_kind};
 use ob_explain_sentences::place::halves;
+use ob_explain_words::declaring::declares;
 use ob_scan::{Kind, Token};
 
 /// Whether a keyword in small letters stands there, before it, or before the `:` and the name before it, with a `:` behind it and no
@@ -63,6 +64,15 @@ pub fn is_behind_part_of_procedure(site: &Site<'_, '_>) -> bool {
         }
         _ => false,
     }
+}
+
+/// Whether a word stands there behind a `#` and another word, and the text does not declare both: so begins a comment of other languages.
+pub fn is_in_comment(site: &Site<'_, '_>) -> bool {
+    is_kind(site.second(), Kind::NotEqual)
+        && is_kind(site.last(), Kind::Ident)
+        && is_kind(site.here(), Kind::Ident)
+        && !(declares(site.text, site.tokens, site.word_of(site.last()))
+            && declares(site.text, site.tokens, site.word()))
 }
 
 /// Whether the line before ends with an operator, and the token there begins its own line, or is a `:=` behind what may be assigned.

@@ -1,6 +1,7 @@
 //! Names of procedures and of what is declared, and headings, by the tokens of a text alone.
 
 use crate::habits::begun_from;
+use ob_evidence::nearest_names::leads_to_statement;
 use ob_evidence::small_keywords::{first_of_statement, next_behind};
 use ob_evidence::text_site::{Site, is_kind};
 use ob_explain_tokens::actuals::ends_call;
@@ -92,6 +93,24 @@ pub fn is_assigned(site: &Site<'_, '_>) -> bool {
         }
     }
     false
+}
+
+/// Whether a `:=` stands before the place in its statement.
+pub fn is_behind_assign(site: &Site<'_, '_>) -> bool {
+    for token in site.before {
+        if token.kind == Kind::Assign
+            || leads_to_statement(token.kind)
+            || begins_condition(token.kind)
+        {
+            return token.kind == Kind::Assign;
+        }
+    }
+    false
+}
+
+/// Whether a condition stands behind a token.
+fn begins_condition(kind: Kind) -> bool {
+    matches!(kind, Kind::If | Kind::Elsif | Kind::While | Kind::Until)
 }
 
 fn ends_statement(kind: Kind) -> bool {

@@ -1,4 +1,4 @@
-//! What a `{` and a `//` are meant to be, by the bytes around them.
+//! What a `{`, a `//`, a `/=` and a `'` are meant to be, by the bytes around them.
 
 use ob_evidence::facts::note;
 use ob_explain_sentences::first_word::{is_same_in_any_case, word_at};
@@ -10,6 +10,9 @@ use std::alloc::AllocError;
 const BEHIND_OPERANDS: &[&str] = &[
     "THEN", "DO", "OR", "DIV", "MOD", "END", "ELSE", "ELSIF", "UNTIL", "OF",
 ];
+
+/// Keywords behind which a condition stands.
+const CONDITIONS: &[&str] = &["IF", "ELSIF", "WHILE", "UNTIL"];
 
 /// Keywords behind which statements stand.
 const BEFORE_STATEMENTS: &[&str] = &["THEN", "ELSE", "DO", "REPEAT", "BEGIN"];
@@ -27,8 +30,35 @@ fn sign_meant(before: &[u8], from: &[u8]) -> Option<Fact> {
     match from {
         [b'{', inside @ ..] => brace_meant(line_behind(before), line_of(inside)),
         [b'/', b'/', behind @ ..] => slashes_meant(line_behind(before), line_of(behind)),
+        [b'/', b'=', ..] if is_in_value(line_behind(before)) => Some(Fact::ComparisonThere),
+        [b'\'', inside @ ..] if is_text(line_of(inside)) => Some(Fact::TextThere),
         _ => None,
     }
+}
+
+/// Whether these bytes of a line end in a condition, or in the value that is assigned.
+fn is_in_value(before: &[u8]) -> bool {
+    let mut last = b' ';
+    for byte in before {
+        if last == b':' && *byte == b'=' {
+            return true;
+        }
+        last = *byte;
+    }
+    is_one(CONDITIONS, word_at(before.trim_ascii()))
+}
+
+/// Whether a `'` stands in these bytes behind several letters of ASCII.
+fn is_text(inside: &[u8]) -> bool {
+    for (at, byte) in inside.iter().enumerate() {
+        if *byte == b'\'' {
+            return at > 1;
+        }
+        if !byte.is_ascii() {
+            return false;
+        }
+    }
+    false
 }
 
 /// The bytes up to the first line feed.

@@ -82,13 +82,24 @@ fn missing_mark(
     could: &[Kind],
 ) -> Result<Option<Fact>, AllocError> {
     let (kind, fact) = awaited(could);
-    if goes_on_behind(alloc, site, kind, here.kind)? {
+    if begins_late_section(here, could) {
+        Ok(Some(Fact::NoSemicolon))
+    } else if goes_on_behind(alloc, site, kind, here.kind)? {
         Ok(Some(fact))
     } else if could.contains(&Kind::Comma) && goes_on_behind(alloc, site, Kind::Comma, here.kind)? {
         Ok(Some(Fact::NoComma))
     } else {
         Ok(None)
     }
+}
+
+/// Whether a section begins there where a declaration is to end first, so that its `;` is missing even if the section stands too late.
+fn begins_late_section(here: Token, could: &[Kind]) -> bool {
+    matches!(here.kind, Kind::Const | Kind::Type | Kind::Var)
+        && could.contains(&Kind::Semicolon)
+        && !could.contains(&Kind::End)
+        && !could.contains(&Kind::Until)
+        && !could.contains(&Kind::RightParen)
 }
 
 /// Whether the text before the place goes on with a token of this kind and, behind it, with one of that kind.

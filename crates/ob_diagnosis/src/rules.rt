@@ -8,8 +8,8 @@ ghost use Rattle.ob_explain_sentences.specs.Remarks.{remark_of};
 use crate::told_by_tables::{Seen, nothing, of_facts, told};
 use ob_clues::comparisons::note_beside;
 use ob_clues::foreign::is_number_type;
-use ob_clues::further::{declares_other, is_elsewhere, is_own_name, is_own_type};
-use ob_clues::procedure_names::{is_field, is_in_export, is_procedure};
+use ob_clues::further::{declared_below, is_elsewhere, is_own_name, is_own_type};
+use ob_clues::procedure_names::{is_field, is_in_export};
 use ob_evidence::constant_numbers::{
     first_operand, is_known, length_there, second_operand, written,
 };
@@ -18,7 +18,7 @@ use ob_evidence::nearest_names::{
     declared, declared_line, is_near, is_there, near_name, parameters, sort_facts, sort_there,
 };
 use ob_evidence::needed_types::{note_whole, types_there};
-use ob_evidence::text_site::{Site, is_kind, is_token, kind_or_name, rest_of};
+use ob_evidence::text_site::{Site, is_kind, is_token, kind_or_name, line_of, rest_of};
 use ob_evidence::word_totals::{are_told, is_counted, is_in_procedure, told_words, words_there};
 use ob_explain_names::declarations::first_of;
 use ob_explain_parts::field_names::{fields_at, listed_fields};
@@ -41,11 +41,12 @@ pub(crate) fn unknown_remark(alloc: Global, site: &Site<'_, '_>) -> Result<Remar
     let fields = fields_at(alloc, site.text, site.known, site.tokens, site.place)?;
     let first = listed_fields(alloc, site.text, &fields)?;
     let word = name_alone(site);
+    let below = declared_below(site, word);
     let facts = facts_of(
         alloc,
         &[
             (is_near(near), Fact::Near),
-            (is_further_down(site, word), Fact::FurtherDown),
+            (is_token(below), Fact::FurtherDown),
             (is_field(site, word), Fact::Field),
             (is_elsewhere(site, word), Fact::Elsewhere),
             (is_number_type(word), Fact::NumberType),
@@ -61,14 +62,10 @@ pub(crate) fn unknown_remark(alloc: Global, site: &Site<'_, '_>) -> Result<Remar
     let evidence = Evidence {
         name: bytes_of(site.text, near.named),
         first: &first,
+        line: line_of(site.text, below),
         ..nothing()
     };
     told(alloc, site, Number::C1, &seen, &evidence)
-}
-
-/// Whether a constant, a type or a procedure of this name is declared behind the place.
-fn is_further_down(site: &Site<'_, '_>, word: &[u8]) -> bool {
-    is_procedure(site, site.behind, word) || declares_other(site, site.behind, word)
 }
 
 /// The word at the place; empty behind a `.`, where it is the name of a field.

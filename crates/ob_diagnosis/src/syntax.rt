@@ -8,6 +8,7 @@ ghost use Rattle.ob_explain_sentences.specs.Remarks.{remark_of};
 
 use crate::told_by_tables::{Seen, nothing, of_facts, told};
 use crate::unexpected::seen_there;
+use ob_clues::calls::{call_meant, length_meant};
 use ob_clues::procedure_names::is_renamed;
 use ob_evidence::constructs::{inner_of, open_around, opening_of};
 use ob_evidence::facts::{facts_of, note};
@@ -39,6 +40,10 @@ fn expected_remark(alloc: Global, site: &Site<'_, '_>, could: &[Kind]) -> Result
     let opening = opening_of(found.shown);
     let lone = lone_end(site, opening);
     note(&mut facts, is_token(lone), Fact::Lone)?;
+    let call = call_meant(alloc, site)?;
+    note(&mut facts, !call.is_empty(), Fact::CallMeant)?;
+    let length = length_meant(site);
+    note(&mut facts, !length.is_empty(), Fact::LengthTold)?;
     let last = site.last();
     let before = site.word_of(last);
     let seen = Seen {
@@ -51,6 +56,8 @@ fn expected_remark(alloc: Global, site: &Site<'_, '_>, could: &[Kind]) -> Result
     let lone_line = line_of(site.text, lone);
     let evidence = Evidence {
         name: before,
+        first: &call,
+        second: length,
         could,
         keyword: found.keyword.unwrap_or(Kind::Ident),
         opening: kind_or_name(opening),

@@ -9,12 +9,13 @@ use crate::keywords::{is_keyword, keyword_before, keyword_first, keyword_there};
 use crate::missing::missing_there;
 use ob_clues::comparisons::is_chained;
 use ob_clues::foreign::{is_foreign, is_type_name};
-use ob_clues::further::{begins_block, has_ended, is_closed_behind, is_type};
+use ob_clues::further::{begins_block, has_ended, is_before_type, is_closed_behind, is_type};
 use ob_clues::habits::{
-    has_small_before_colon, is_behind_part_of_procedure, is_unassigned, is_unfinished,
+    has_small_before_colon, is_behind_part_of_procedure, is_in_comment, is_unassigned,
+    is_unfinished,
 };
 use ob_clues::procedure_names::{
-    begins_with_bracket, called, ends_repeat, is_assigned, is_procedure, lists,
+    begins_with_bracket, called, ends_repeat, is_assigned, is_behind_assign, is_procedure, lists,
 };
 use ob_evidence::constructs::{Shown, shown_there};
 use ob_evidence::facts::note;
@@ -135,6 +136,7 @@ fn note_tokens(
     note(facts, is_unfinished(site), Fact::Unfinished)?;
     note(facts, is_unassigned(site), Fact::Unassigned)?;
     note(facts, is_chained(site), Fact::Chained)?;
+    note(facts, is_behind_assign(site), Fact::BehindAssign)?;
     note(
         facts,
         is_kind(open_construct(site.before), Kind::Module),
@@ -161,12 +163,14 @@ fn note_words(facts: &mut Vec<Fact>, site: &Site<'_, '_>) -> Result<(), AllocErr
     note(facts, is_call, Fact::BehindCall)?;
     note(facts, is_declared, Fact::DeclaredBefore)?;
     note(facts, begins_with_bracket(site), Fact::CallBracket)?;
+    note(facts, is_before_type(site), Fact::TypeBehind)?;
     note(
         facts,
         is_behind_part_of_procedure(site),
         Fact::PartOfProcedure,
     )?;
     note(facts, has_small_before_colon(site), Fact::SmallBeforeColon)?;
+    note(facts, is_in_comment(site), Fact::CommentThere)?;
     note(
         facts,
         !is_procedure(site, site.tokens, word) && !is_assigned(site),

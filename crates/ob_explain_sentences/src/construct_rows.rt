@@ -2,7 +2,7 @@
 
 use crate::table_rows::WhenOf::{Could, Here, Is, Last, Next, Not};
 use crate::table_rows::{Fact, Piece, PieceOf, Row};
-use crate::word_rows::NO_SHIFT;
+use crate::word_rows::{END_ALONE, NO_SHIFT, NOT_EQUAL};
 use ob_scan::Kind;
 
 /// A table: in each row conditions, and what is said.
@@ -17,6 +17,11 @@ const REPEAT_END: &[Piece] = &[PieceOf::Text(
 )];
 
 const SHIFT: &[Piece] = &[PieceOf::Text(NO_SHIFT)];
+
+/// On a `#` behind which words of a comment stand.
+pub const HASH_COMMENT: &[Piece] = &[PieceOf::Text(
+    "a comment is written (* .. *), and # means not equal",
+)];
 
 const NO_COMMA: &[Piece] = &[PieceOf::Text("is a , missing before it?")];
 
@@ -65,7 +70,7 @@ pub const CONSTRUCT_ROWS: &[Row] = rows! {
     [Is(Fact::OuterName), Is(Fact::InnerIf)] =>
         &[END_CLOSES, PieceOf::Opening, OF_LINE, PieceOf::Line, NO_END, ELSE_IF, PieceOf::OtherLine, OTHER_IF];
     [Is(Fact::OuterName)] => &[END_CLOSES, PieceOf::Opening, OF_LINE, PieceOf::Line, NO_END];
-    [Is(Fact::Repeated)] => &[PieceOf::Text("an IF or a WHILE ends with END alone")];
+    [Is(Fact::Repeated)] => &[PieceOf::Text(END_ALONE)];
     [Is(Fact::StillOpen), Is(Fact::Lone), Not(Fact::OpenRepeat)] =>
         &[THE, PieceOf::Opening, OF_LINE, PieceOf::Line, STILL_OPEN, IS_LONE, PieceOf::Lone, IN_LINE, PieceOf::LoneLine, MEANT];
     [Is(Fact::StillOpen), Is(Fact::OpenRepeat), Is(Fact::InnerIf)] =>
@@ -79,7 +84,7 @@ pub const CONSTRUCT_ROWS: &[Row] = rows! {
     [Is(Fact::NoBracket)] => &[PieceOf::Text("is a ] missing before it?")];
     [Is(Fact::NoParen)] => &[PieceOf::Text("is a ) missing before it?")];
     [Last(&[Kind::Less]), Here(&[Kind::Greater, Kind::GreaterOrEqual]), Is(Fact::Touching)] =>
-        &[PieceOf::Text("not equal is written #")];
+        &[PieceOf::Text(NOT_EQUAL)];
     [Last(&[Kind::Less]), Here(&[Kind::Less, Kind::LessOrEqual]), Is(Fact::Touching)] => SHIFT;
     [Last(&[Kind::Greater]), Here(&[Kind::Greater, Kind::GreaterOrEqual]), Is(Fact::Touching)] => SHIFT;
     [
@@ -111,6 +116,7 @@ pub const MISSING_ROWS: &[Row] = rows! {
     [Is(Fact::RepeatEnd)] => REPEAT_END;
     [Is(Fact::NoLeftParen)] => &[PieceOf::Text("is a ( missing before it?")];
     [Is(Fact::NoEnd)] => &[PieceOf::Text("is END missing before it? The name of what ends stands behind its END")];
+    [Is(Fact::CommentThere)] => HASH_COMMENT;
     [Not(Fact::UndeclaredCall), Is(Fact::NoOperator)] => &[PieceOf::Text("is an operator missing before it, as + or *?")];
     [Not(Fact::UndeclaredCall), Is(Fact::NoThen)] => &[PieceOf::Text("is THEN missing before it?")];
     [Not(Fact::UndeclaredCall), Is(Fact::NoDo)] => &[PieceOf::Text("is DO missing before it?")];

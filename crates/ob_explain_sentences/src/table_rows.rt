@@ -37,9 +37,11 @@ pub enum Fact {
     TypeAwaited,
     /// A word CASE stands before it.
     BehindCase,
-    /// A comment of another language begins there, or a quotient between two operands.
+    /// A comment of another language begins there, a quotient between two operands, a comparison, or a text of several letters.
     CommentThere,
     QuotientThere,
+    ComparisonThere,
+    TextThere,
     /// A brace stands there for this keyword, or for none.
     ThenMeant,
     DoMeant,
@@ -63,6 +65,11 @@ pub enum Fact {
     NoArray,
     BehindCall,
     DeclaredBefore,
+    /// The call is meant to hand over the variable before it too; the length of the array in its parentheses is known.
+    CallMeant,
+    LengthTold,
+    /// Brackets begin there, and behind them a type.
+    TypeBehind,
     /// The statement begins with the name of a procedure and a `[`.
     CallBracket,
     /// What stands there is an actual and begins no statement.
@@ -76,6 +83,8 @@ pub enum Fact {
     Unfinished,
     /// The line before ends with a `:=`, and the token there begins its own line, or stands behind what begins a statement of its own.
     Unassigned,
+    /// A `:=` stands before it in its statement.
+    BehindAssign,
     /// Before it stands one comparison, without & and OR behind it.
     Chained,
     /// The heading of a procedure could end there.

@@ -1,5 +1,6 @@
 //! Hints on tokens that can't stand where they do, by the tokens around the place and by what could stand there.
 
+use crate::construct_rows::HASH_COMMENT;
 use crate::table_rows::WhenOf::{Could, Here, Is, Last, Never, Next, Not, On, Second, Sign, Word};
 use crate::table_rows::{Fact, Number, Piece, PieceOf, Row};
 use crate::word_rows::{
@@ -15,9 +16,11 @@ macro_rules! rows {
     };
 }
 
-const NO_FUNCTION: &[Piece] = &[PieceOf::Text(
+const NO_RESULT: Piece = PieceOf::Text(
     "there are no functions; a procedure gives its results by VAR parameters, and a call of it is a statement",
-)];
+);
+
+const NO_FUNCTION: &[Piece] = &[NO_RESULT];
 
 const INDEX: &[Piece] = &[PieceOf::Text("an element of an array is written a[i]")];
 
@@ -297,6 +300,8 @@ pub const SIGN_ROWS: &[Row] = rows! {
     [Here(&[Kind::LeftParen]), Could(&[Kind::LeftBracket]), Word(&["INTEGER", "BOOLEAN", "INT", "BOOL"])] => &[PieceOf::Text(
         "no type is made into another one; a BOOLEAN gives a number by IF b THEN x := 1 ELSE x := 0 END",
     )];
+    [Here(&[Kind::LeftParen]), Could(&[Kind::LeftBracket]), Is(Fact::CallMeant)] =>
+        &[NO_RESULT, PieceOf::Text(": "), PieceOf::First];
     [Here(&[Kind::LeftParen]), Could(&[Kind::LeftBracket]), Not(Fact::Foreign), Is(Fact::NoArray)] => NO_FUNCTION;
     [Here(&[Kind::LeftParen]), Could(&[Kind::LeftBracket]), Not(Fact::Foreign)] => INDEX;
     [Here(&[Kind::Colon]), Next(&[Kind::Ident, Kind::Array, Kind::Record]), Is(Fact::Heading)] => NO_FUNCTION;
@@ -320,6 +325,7 @@ pub const SYMBOL_ROWS: &[Row] = rows! {
     [Here(&[Kind::Equal]), Last(&[Kind::Equal]), Not(Fact::Touching)] => &[PieceOf::Text("is one = too many?")];
     [Here(&[Kind::Assign]), Last(&[Kind::Assign, Kind::Equal])] => &[PieceOf::Text("is one := too many?")];
     [Here(&[Kind::Assign]), Last(&[Kind::RightParen]), Never(&[Kind::And])] => INDEX;
+    [Here(&[Kind::Assign]), Is(Fact::BehindAssign)] => SEPARATED;
     [Sign("=:"), Could(&[Kind::Assign])] => &[PieceOf::Text("an assignment is written with :=")];
     [Here(&[Kind::Equal]), Could(&[Kind::Assign])] => &[PieceOf::Text("= compares, and := assigns")];
     [Sign("<-"), Could(&[Kind::Assign])] => &[PieceOf::Text("an assignment is written with :=")];
@@ -355,8 +361,7 @@ pub const SYMBOL_ROWS: &[Row] = rows! {
     [Sign("++"), Never(&[Kind::Number, Kind::And, Kind::Assign])] => CHANGE;
     [Sign("#include")] => &[PieceOf::Text("there is no IMPORT; a module stands alone")];
     [Sign("#define")] => CONSTANTS;
-    [Here(&[Kind::NotEqual]), Never(&[Kind::Number, Kind::And, Kind::Assign])] =>
-        &[PieceOf::Text("a comment is written (* .. *), and # means not equal")];
+    [Here(&[Kind::NotEqual]), Never(&[Kind::Number, Kind::And, Kind::Assign])] => HASH_COMMENT;
 };
 
 /// Keywords as names, blocks, and tokens among statements.
@@ -421,6 +426,7 @@ pub const STATEMENT_ROWS: &[Row] = rows! {
     [Here(&[Kind::Semicolon]), Last(&[Kind::Semicolon])] => &[PieceOf::Text("one ; is enough behind a declaration")];
     [Here(&[Kind::Then]), Could(&[Kind::Do])] => LEADER;
     [Here(&[Kind::Do]), Could(&[Kind::Then])] => LEADER;
+    [Here(&[Kind::Ident]), Word(&["LOOP"]), Could(&[Kind::Do])] => LEADER;
     [Here(&[Kind::Procedure]), Could(&[Kind::While]), Is(Fact::InModule)] => ORDER;
     [Here(&[Kind::Semicolon]), Next(&[Kind::Then]), Could(&[Kind::Then])] => NO_SEMICOLON;
     [Here(&[Kind::Semicolon]), Next(&[Kind::Do]), Could(&[Kind::Do])] => NO_SEMICOLON;
@@ -535,6 +541,7 @@ pub const TYPE_TOKEN_ROWS: &[Row] = rows! {
 
 /// Tokens in declarations.
 pub const DECLARATION_ROWS: &[Row] = rows! {
+    [Here(&[Kind::LeftBracket]), Could(&[Kind::Colon]), Is(Fact::TypeBehind)] => ARRAY_TYPE;
     [Here(&[Kind::Assign, Kind::LeftParen, Kind::LeftBracket, Kind::Dot]), Could(&[Kind::Colon]), Is(Fact::DeclaredBefore)] => NO_BEGIN;
     [
         Here(&[Kind::Assign, Kind::LeftParen, Kind::LeftBracket, Kind::Dot]),

@@ -4,10 +4,10 @@ use crate::table_rows::WhenOf::{Could, Here, Is, Last, Never, Next, Not, On, Sec
 use crate::table_rows::{Fact, Number, PieceOf, Row};
 use ob_scan::Kind;
 
-/// A table: in each row conditions, and what is said.
+/// A table: in each row conditions, and what is said: a text, and what else follows it.
 macro_rules! rows {
-    ($([$($when:expr),*] => $said:expr;)*) => {
-        &[$(Row { when: &[$($when),*], said: &[PieceOf::Text($said)] }),*]
+    ($([$($when:expr),*] => $said:expr $(, $more:expr)*;)*) => {
+        &[$(Row { when: &[$($when),*], said: &[PieceOf::Text($said) $(, $more)*] }),*]
     };
 }
 
@@ -29,6 +29,13 @@ pub const IN_CAPITALS: &str = "keywords are written in capitals";
 /// The same, where the keyword begins declarations and can't stand there in capitals either.
 const ORDER_IN_CAPITALS: &str =
     "keywords are written in capitals, and declarations stand before BEGIN, in this order, each word once: CONST, TYPE, VAR, and then procedures";
+
+/// On an END with a word of the construct behind it.
+pub const END_ALONE: &str = "an IF or a WHILE ends with END alone";
+
+pub const NOT_EQUAL: &str = "not equal is written #";
+
+const NO_STRING: &str = "there are no strings; a value is a number, TRUE or FALSE";
 
 /// On choices among several cases.
 pub const NO_CASE: &str = "there is no CASE; write IF k = 1 THEN .. ELSIF k = 2 THEN .. END";
@@ -55,6 +62,8 @@ pub const FUNCTION_WORDS: &[&str] = &["FUNCTION", "FUNC", "FUN", "DEF", "FN"];
 
 const RECORD_FORM: &str =
     "a record type is declared behind TYPE: TYPE R = RECORD x, y: INTEGER END;";
+
+const RECORD_WORDS: &[&str] = &["STRUCT", "CLASS", "OBJECT", "UNION"];
 
 const DECLARATIONS: &str =
     "a variable is declared behind VAR, as x: INTEGER; a constant behind CONST, as n = 4";
@@ -143,7 +152,8 @@ const GIVEN: &str = "a parameter that gives a value stands behind VAR: VAR x: IN
 pub const BYTE_ROWS: &[Row] = rows! {
     [Sign("_"), Is(Fact::BehindDigits)] => "a number has digits alone, and no underscores";
     [Sign("_")] => "a name has letters and digits, and no underscores";
-    [Sign("\"")] => "there are no strings; a value is a number, TRUE or FALSE";
+    [Sign("\"")] => NO_STRING;
+    [Sign("'"), Is(Fact::TextThere)] => NO_STRING;
     [Sign("'")] => "there are no characters; a value is a number, TRUE or FALSE";
     [Sign("{"), Is(Fact::CommentThere)] => COMMENT;
     [Sign("{"), Is(Fact::ThenMeant)] => "there are no blocks in braces: THEN stands for {, and END for }";
@@ -152,12 +162,13 @@ pub const BYTE_ROWS: &[Row] = rows! {
     [Sign("{"), Is(Fact::NothingMeant)] => "there are no blocks in braces: nothing stands for {, and END for }";
     [Sign("{")] => "a comment is written (* .. *); there are no blocks in braces: statements stand between THEN, DO or BEGIN and END";
     [Sign("}")] => "there are no blocks in braces; IF, WHILE, a procedure and the module end with END";
-    [Sign("!=")] => "not equal is written #";
+    [Sign("!=")] => NOT_EQUAL;
     [Sign("!")] => "not is written ~";
     [Sign("//"), Is(Fact::CommentThere)] => COMMENT;
     [Sign("//"), Is(Fact::QuotientThere)] => QUOTIENT;
     [Sign("//")] => "a comment is written (* .. *), and a quotient with DIV";
     [Sign("/*")] => COMMENT;
+    [Sign("/="), Is(Fact::ComparisonThere)] => NOT_EQUAL;
     [Sign("/=")] => "not equal is written #; a variable is divided by x := x DIV y";
     [Sign("/")] => QUOTIENT;
     [Sign("||")] => "or is written OR";
@@ -239,6 +250,7 @@ pub const PLACED_WORD_ROWS: &[Row] = rows! {
     [Word(&["DECLARE"]), Could(&[Kind::Var])] => "variables are declared behind VAR: VAR x, y: INTEGER";
     [Word(&["IS", "AS"]), Is(Fact::Heading)] => "behind the heading of a procedure stands ;, and then its declarations";
     [Word(&["OD", "WEND", "ENDWHILE"]), Could(&[Kind::End])] => "a WHILE ends with END";
+    [Word(&["LOOP"]), Here(&[Kind::Ident]), Last(&[Kind::End])] => END_ALONE;
     [Word(&["FI"]), Could(&[Kind::End])] => "an IF ends with END";
     [Word(&["USE", "USING", "FROM", "INCLUDE", "REQUIRE", "PACKAGE"]), Could(&[Kind::Const])] => "there is no IMPORT; a module stands alone";
     [Word(&["OUT", "INOUT", "REF", "BYREF"]), Last(&[Kind::Ident]), Is(Fact::InParens), Could(&[Kind::Colon])] => GIVEN;
@@ -271,8 +283,9 @@ pub const PLACED_WORD_ROWS: &[Row] = rows! {
 
 /// The same of types, calls and statements.
 pub const STATEMENT_WORD_ROWS: &[Row] = rows! {
-    [Word(&["STRUCT", "CLASS", "OBJECT", "UNION"]), Could(&[Kind::Procedure])] => RECORD_FORM;
-    [Word(&["STRUCT", "CLASS", "OBJECT", "UNION"]), Last(&[Kind::Ident]), Second(&[Kind::Equal, Kind::Colon, Kind::Of])] => RECORD_FORM;
+    [Word(RECORD_WORDS), Could(&[Kind::Procedure])] => RECORD_FORM;
+    [Word(RECORD_WORDS), Last(&[Kind::Ident]), Second(&[Kind::Equal, Kind::Colon, Kind::Of])] => RECORD_FORM;
+    [Word(RECORD_WORDS), Here(&[Kind::Ident]), Last(&[Kind::Ident]), Could(&[Kind::Equal])] => RECORD_FORM;
     [Word(&["SET"]), Here(&[Kind::Of])] => NO_SET;
     [Word(&["SET"]), Last(&[Kind::Ident]), Could(&[Kind::Assign])] => "no word stands before an assignment: x := x + 1";
     [Word(&["CALL"]), Last(&[Kind::Ident]), Could(&[Kind::Assign])] => "a procedure is called by its name alone, as P(a, 1)";
@@ -295,7 +308,8 @@ pub const STATEMENT_WORD_ROWS: &[Row] = rows! {
 
 /// Names that other languages have.
 pub const NAME_ROWS: &[Row] = rows! {
-    [Is(Fact::FurtherDown)] => "this name is declared further down; it is known only behind its declaration, so move that up";
+    [Is(Fact::FurtherDown)] =>
+        "this name is declared further down, in line ", PieceOf::Line, PieceOf::Text("; it is known only behind its declaration, so move that up");
     [Is(Fact::OwnType)] =>
         "no type has a part of its own type, and there are no pointers; write an array of records, and an index in place of a pointer";
     [Is(Fact::OwnName)] => "this name is the one that is being declared, and it is known only behind its declaration";

@@ -2,9 +2,10 @@
 
 use crate::fix::{COMMENT, COMMENT_END, fixed, left_out};
 use crate::mending::Mending;
-use crate::part::{CONDITIONS, part_at};
+use crate::part::{CONDITIONS, is_in_body, part_at};
 use crate::tokens::ends_line;
-use ob_evidence::text_site::{Site, is_kind};
+use ob_evidence::nearest_names::leads_to_statement;
+use ob_evidence::text_site::{Site, is_kind, kind_or_name};
 use ob_explain_sentences::place::halves;
 use ob_explain_words::declaring::declares;
 use ob_scan::Kind;
@@ -21,10 +22,15 @@ pub fn comment_mending(
     fixed(alloc, end, 0, COMMENT_END)
 }
 
-/// The mending of words behind a `#` with which a line or a statement would begin, or behind `--`, as comments of other languages do.
+/// The mending of words behind a `#` with which a line or a statement would begin, or which stands behind an END or among declarations, or behind
+/// `--`, as comments of other languages do.
 pub fn line_mending(alloc: Global, site: &Site<'_, '_>) -> Result<Option<Mending>, AllocError> {
     let (before, from) = halves(site.text, site.place);
-    let is_first = ends_line(before) || is_kind(site.last(), Kind::Semicolon);
+    let last = kind_or_name(site.last());
+    let is_first = ends_line(before)
+        || leads_to_statement(last)
+        || last == Kind::End
+        || site.last().is_some() && !is_in_body(site.before);
     match from {
         [b'#', ..] if is_first => line_left_out(alloc, site.text, site.place),
         [b'-', b'-', b' ', ..] => line_left_out(alloc, site.text, site.place),

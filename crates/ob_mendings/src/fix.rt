@@ -136,11 +136,17 @@ pub const DO_FOR: Fix = fix!(b" DO " => "with DO for {");
 
 pub const END_FOR: Fix = fix!(b" END " => "with END for }");
 
+pub const END_SEMICOLON: Fix = fix!(b" END; " => "with END; for }");
+
 pub const ELSIF_WORD: Fix = fix!(b"ELSIF" => "with ELSIF written there");
 
 pub const LOOP_WORD: Fix = fix!(b"WHILE TRUE DO " => "with WHILE TRUE DO for LOOP");
 
 pub const END_WORD: Fix = fix!(b"END" => "with END written there");
+
+pub const RECORD_WORD: Fix = fix!(b"RECORD" => "with RECORD for the word before it");
+
+pub const EQUAL_RECORD: Fix = fix!(b"= RECORD" => "with = RECORD in its place");
 
 // something is too much
 pub const NOTHING: Fix = fix!(b"" => "with this left out");

@@ -19,7 +19,7 @@ pub struct Part {
 }
 
 /// With these a section of a module or a procedure begins: its heading, declarations, or its body.
-const SECTIONS: &[Kind] = &[
+pub const SECTIONS: &[Kind] = &[
     Kind::Module,
     Kind::Procedure,
     Kind::Const,

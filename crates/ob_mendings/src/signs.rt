@@ -2,9 +2,9 @@
 
 use crate::comments::{Run, braced, comment_of, length_of_run, line_before, line_of, quoted};
 use crate::fix::{
-    ARROW, ASSIGN, AT_LEAST, AT_MOST, BEGIN_FOR, BYTE, COMMENT, DIV, DO_FOR, END_FOR, Fix, MOD,
-    NOT, NOT_EQUAL, ONE, ONE_AND, ONE_EQUAL, OR, THEN_FOR, UNEQUAL, ZERO, changed, fixed, left_out,
-    worded,
+    ARROW, ASSIGN, AT_LEAST, AT_MOST, BEGIN_FOR, BYTE, COMMENT, DIV, DO_FOR, END_FOR,
+    END_SEMICOLON, Fix, MOD, NOT, NOT_EQUAL, ONE, ONE_AND, ONE_EQUAL, OR, THEN_FOR, UNEQUAL, ZERO,
+    changed, fixed, left_out, worded,
 };
 use crate::mending::{Elsewhere, Mending, Told};
 use crate::part::{CONDITIONS, part_at};
@@ -137,13 +137,19 @@ fn opened_by(line: &[u8]) -> Fix {
     }
 }
 
-/// What is put for a `}` with which these bytes begin: nothing before an ELSE.
+/// What is put for a `}` with which these bytes begin: nothing before an ELSE, and an END with its `;` before another statement.
 fn closed_before(from: &[u8]) -> Fix {
-    let word = word_at(after_brace(from));
+    let behind = after_brace(from);
+    let word = word_at(behind);
+    let line = after_brace(line_of(from));
+    let (_, rest) = halves(line, word_at(line).len());
+    let is_ended = matches!(rest.trim_ascii_start(), [b';' | b'.', ..]);
     if is_same_in_any_case(word, b"ELSE") || is_same_in_any_case(word, b"ELSIF") {
         BYTE
-    } else {
+    } else if is_ended || word.is_empty() {
         END_FOR
+    } else {
+        END_SEMICOLON
     }
 }
 

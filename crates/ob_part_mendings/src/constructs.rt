@@ -9,7 +9,7 @@ use ob_explain_words::declaring::declares;
 use ob_mendings::comments::line_of;
 use ob_mendings::fix::{BODY, LOOP_HEADING, STATEMENT, fixed, left_out};
 use ob_mendings::mending::{Elsewhere, Mending, Told};
-use ob_mendings::part::{is_in_body, part_at};
+use ob_mendings::part::{is_in_body, part_at, part_mending};
 use ob_mendings::tokens::{between, ends_line, first_behind, last_before, length_of};
 use ob_scan::{Kind, Token};
 use std::alloc::{AllocError, Global};
@@ -59,7 +59,7 @@ pub fn bar_mending(
 ) -> Result<Option<Mending>, AllocError> {
     match halves(text, place).1 {
         [b'|', ..] => {
-            let clean = without_bars(alloc, text)?;
+            let clean = cleared_of(alloc, text, b'|')?;
             let found = look_around(alloc, &clean, place)?;
             whole_mending(alloc, &found.site(&clean, place))
         }
@@ -67,11 +67,27 @@ pub fn bar_mending(
     }
 }
 
-/// Bytes with a blank for each `|`.
-fn without_bars(alloc: Global, text: &[u8]) -> Result<Vec<u8>, AllocError> {
+/// The mending of `c ? a : b`: what it stands in is left out, since nothing stands for it in one statement.
+pub fn choice_mending(
+    alloc: Global,
+    text: &[u8],
+    place: usize,
+) -> Result<Option<Mending>, AllocError> {
+    match halves(text, place).1 {
+        [b'?', ..] => {
+            let clean = cleared_of(alloc, text, b'?')?;
+            let found = look_around(alloc, &clean, place)?;
+            part_mending(alloc, &found.site(&clean, place))
+        }
+        _ => Ok(None),
+    }
+}
+
+/// Bytes with a blank for each one that is this.
+fn cleared_of(alloc: Global, text: &[u8], sign: u8) -> Result<Vec<u8>, AllocError> {
     let mut clean = Vec::new(alloc);
     for byte in text {
-        clean.push(if *byte == b'|' { b' ' } else { *byte })?;
+        clean.push(if *byte == sign { b' ' } else { *byte })?;
     }
     Ok(clean)
 }

@@ -22,11 +22,13 @@ use ob_mendings::tokens::{between, first_behind, first_of, last_before, length_o
 use ob_scan::{Kind, Token};
 use std::alloc::{AllocError, Global};
 
-/// Words that stand before a variable which is declared where it is assigned first.
+/// Words that stand before a variable which is declared where it is assigned first; a type may stand there too.
 const LOCALS: &[&[u8]] = &[
-    b"LET", b"VAR", b"CONST", b"INT", b"BOOL", b"INTEGER", b"BOOLEAN", b"AUTO", b"DIM", b"LOCAL",
-    b"MY", b"SET",
+    b"LET", b"VAR", b"CONST", b"AUTO", b"DIM", b"LOCAL", b"MY", b"SET",
 ];
+
+/// Types that stand before such a variable.
+const LOCAL_TYPES: &[&[u8]] = &[b"INT", b"BOOL", b"INTEGER", b"BOOLEAN"];
 
 /// Where a declaration begins.
 const LEADERS: &[Kind] = &[Kind::Semicolon, Kind::Var, Kind::Const, Kind::Type];
@@ -96,6 +98,59 @@ fn procedure_end(site: &Site<'_, '_>) -> Option<Token> {
     None
 }
 
+/// The mending of the name of a procedure that is declared further down: that is put before the procedure in which the place stands.
+pub fn moved_mending(alloc: Global, site: &Site<'_, '_>) -> Result<Option<Mending>, AllocError> {
+    let (Some(around), Some(heading), Some(end)) = (
+        outermost(site.before),
+        heading_below(site),
+        procedure_end(site),
+    ) else {
+        return Ok(None);
+    };
+    let whole = between(site.text, heading.start, end.end);
+    let mut put = in_one_line(alloc, whole)?;
+    put.push(b' ')?;
+    Ok(Some(Mending {
+        place: around.start,
+        taken: 0,
+        put,
+        elsewhere: Elsewhere::Moved(heading.start, whole.len()),
+        told: Told::Line("with this procedure put before line ", ""),
+    }))
+}
+
+/// The PROCEDURE behind the place behind which the name stands that stands at the place too.
+fn heading_below(site: &Site<'_, '_>) -> Option<Token> {
+    let mut last: Option<Token> = None;
+    for token in site.behind {
+        if is_kind(last, Kind::Procedure)
+            && token.kind == Kind::Ident
+            && site.word_of(Some(*token)) == site.word()
+        {
+            return last;
+        }
+        last = Some(*token);
+    }
+    None
+}
+
+/// The PROCEDURE of the module itself in which a place stands, before which these tokens stand, the last one first.
+fn outermost(tokens: &[Token]) -> Option<Token> {
+    let mut inside: usize = 0;
+    let mut found = None;
+    for token in tokens {
+        let kind = token.kind;
+        if matches!(kind, Kind::End | Kind::RightParen) {
+            inside = inside.saturating_add(1);
+        } else if inside > 0 {
+            inside = inside.saturating_sub(opened(kind));
+        } else if kind == Kind::Procedure {
+            found = Some(*token);
+        }
+    }
+    found
+}
+
 /// The mending that puts a name in place of that at the place which the text has nowhere.
 fn renamed(alloc: Global, site: &Site<'_, '_>) -> Result<Option<Mending>, AllocError> {
     let mut name = Vec::from_slice(alloc, site.word())?;
@@ -162,34 +217,55 @@ fn declared_there(
     }))
 }
 
-/// The type of the variable at the place, by how it stands in the text.
+/// The type of the variable at the place, by the word before it, or by how it stands in the text.
 fn type_of(site: &Site<'_, '_>) -> &'static [u8] {
-    if is_truth(site) {
+    let word = site.word_of(site.last());
+    let is_boolean = is_same_in_any_case(word, b"BOOL") || is_same_in_any_case(word, b"BOOLEAN");
+    if is_boolean || is_truth(site) {
         b"BOOLEAN"
     } else {
         b"INTEGER"
     }
 }
 
-/// The mending of `let x := 1`, and of what else declares a variable where it is assigned first: without the word, and with a declaration, where
-/// there is none.
+/// The mending of `let x := 1`, of `int x;`, and of what else declares a variable in a body: without the word, or the whole where no value
+/// stands in it, and with a declaration, where there is none.
 pub fn local_mending(alloc: Global, site: &Site<'_, '_>) -> Result<Option<Mending>, AllocError> {
-    let (Some(word), Some(place)) = (site.last(), declaring_at(site.before)) else {
+    let (Some(word), Some(place), Some(next)) = (
+        site.last(),
+        declaring_at(site.before),
+        site.next(),
+    ) else {
         return Ok(None);
     };
-    if !is_in_body(site.before)
-        || !is_kind(site.here(), Kind::Ident)
-        || !is_kind(site.next(), Kind::Assign)
-        || !begins_with(site, word, LOCALS)
-    {
+    let is_typed = begins_with(site, word, LOCAL_TYPES);
+    let is_alone = next.kind == Kind::Semicolon && is_typed;
+    let is_value = begins_value_of(site, word, next.kind)
+        && (is_typed || begins_with(site, word, LOCALS));
+    if !is_in_body(site.before) || !is_kind(site.here(), Kind::Ident) || !is_alone && !is_value {
         return Ok(None);
     }
+    let end = if is_alone { next.start } else { word.end };
     if declares(site.text, site.tokens, site.word()) {
-        return fixed(alloc, word.start, length_of(Some(word)), WORD_BEFORE);
+        let fix = if is_alone { DECLARATION } else { WORD_BEFORE };
+        return without(alloc, site, word.start, end, fix);
     }
-    let left = Elsewhere::Moved(word.start, length_of(Some(word)));
-    let told = " among the declarations, and the word before it left out";
+    let left = Elsewhere::Moved(word.start, end.saturating_sub(word.start));
+    let told = if is_alone {
+        " among the declarations, and this one left out"
+    } else {
+        " among the declarations, and the word before it left out"
+    };
     declared_there(alloc, site, place, left, told)
+}
+
+/// Whether a value of a variable stands behind this token; behind a `=` it may be that of a constant, if CONST stands before the name.
+fn begins_value_of(site: &Site<'_, '_>, word: Token, kind: Kind) -> bool {
+    match kind {
+        Kind::Assign => true,
+        Kind::Equal => !is_same_in_any_case(site.word_of(Some(word)), b"CONST"),
+        _ => false,
+    }
 }
 
 /// The mending of VAR in a body, with the variables behind it: they stand among the declarations.

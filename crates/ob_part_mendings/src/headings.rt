@@ -86,7 +86,7 @@ fn is_meant(site: &Site<'_, '_>, name: &[u8], other: &[u8]) -> bool {
 }
 
 /// How often a name stands in the text, or in headings alone.
-fn count_of(site: &Site<'_, '_>, name: &[u8], in_headings: bool) -> usize {
+pub fn count_of(site: &Site<'_, '_>, name: &[u8], in_headings: bool) -> usize {
     let mut count: usize = 0;
     let mut is_heading = false;
     for token in site.tokens {

@@ -6,12 +6,14 @@ use ob_evidence::text_site::{Site, is_kind, kind_or_name, rest_of};
 use ob_explain_names::declarations::first_of as first_token;
 use ob_explain_sentences::first_word::{is_same, is_same_in_any_case};
 use ob_explain_sentences::place::halves;
+use ob_explain_tokens::operand_tokens::is_relation;
 use ob_mendings::fix::{
     BEGIN_COLON, FALSE, Fix, INITIAL, LENGTH, RESULT, TRUE, TYPE, VALUE, WORD_BEFORE, fixed,
     left_out, worded,
 };
 use ob_mendings::mending::Mending;
 use ob_mendings::part::is_in_body;
+use ob_mendings::rewritten::are_known;
 use ob_mendings::tokens::{between, first_behind, first_of, length_of};
 use ob_scan::{Kind, Token};
 use std::alloc::{AllocError, Global};
@@ -68,7 +70,7 @@ pub fn value_mending(alloc: Global, site: &Site<'_, '_>) -> Result<Option<Mendin
 /// Whether a `:=` stands behind a name that is no type of the language: then it is a statement that is not declared.
 fn is_assigned(site: &Site<'_, '_>) -> bool {
     let word = site.word_of(site.last());
-    is_kind(site.here(), Kind::Assign) && !is_same(word, b"INTEGER") && !is_same(word, b"BOOLEAN")
+    is_kind(site.here(), Kind::Assign) && !is_language_type(word)
 }
 
 /// Whether a name stands at the place. A type of which none is visible may have parts, so no other one is put in its place.
@@ -176,14 +178,21 @@ fn is_out(word: &[u8]) -> bool {
         || is_same_in_any_case(word, b"BYREF")
 }
 
-/// The mending of `a: INTEGER[4]`, or `a: [4]INTEGER`: the type of an array.
+/// What stands around a length in brackets, in place of the type of an array: from where on, up to where, what is put before ARRAY, and the
+/// type of the elements, where that stands before the brackets.
+#[derive(Clone, Copy)]
+struct Bracketed<'t> {
+    begin: usize,
+    end: usize,
+    front: &'static [u8],
+    element: &'t [u8],
+    told: &'static str,
+}
+
+/// The mending of `a: INTEGER[4]`, `a: [4]INTEGER`, `a [4]INTEGER` or `a[4]: INTEGER`: the type of an array.
 pub fn length_mending(alloc: Global, site: &Site<'_, '_>) -> Result<Option<Mending>, AllocError> {
     let ends = &[Kind::RightBracket, Kind::Semicolon];
-    let (Some(open), Some(last), Some(close)) = (
-        site.here(),
-        site.last(),
-        first_of(site.behind, ends),
-    ) else {
+    let (Some(open), Some(close)) = (site.here(), first_of(site.behind, ends)) else {
         return Ok(None);
     };
     if open.kind != Kind::LeftBracket
@@ -192,21 +201,96 @@ pub fn length_mending(alloc: Global, site: &Site<'_, '_>) -> Result<Option<Mendi
     {
         return Ok(None);
     }
-    let (first, element, told): (Token, &[u8], &'static str) = match last.kind {
-        Kind::Ident if is_kind(site.second(), Kind::Colon) => {
-            (last, site.word_of(Some(last)), " in its place")
-        }
-        Kind::Colon | Kind::Equal | Kind::Of => (open, b"", "in its place"),
-        _ => return Ok(None),
+    let Some(bracketed) = bracketed_at(site, open, close) else {
+        return Ok(None);
     };
-    let length = between(site.text, open.end, close.start);
-    let length = if length.is_empty() { b"1" } else { length };
-    let mut put = Vec::from_slice(alloc, b"ARRAY ")?;
-    put.extend_from_slice(length)?;
+    let mut put = Vec::from_slice(alloc, bracketed.front)?;
+    put.extend_from_slice(b"ARRAY ")?;
+    put_length(&mut put, site, open, close)?;
     put.extend_from_slice(b" OF ")?;
-    put.extend_from_slice(element)?;
-    let taken = close.end.saturating_sub(first.start);
-    worded(alloc, first.start, taken, &put, told)
+    put.extend_from_slice(bracketed.element)?;
+    let taken = bracketed.end.saturating_sub(bracketed.begin);
+    worded(alloc, bracketed.begin, taken, &put, bracketed.told)
+}
+
+/// What stands around a length between these brackets.
+fn bracketed_at<'t>(site: &Site<'t, '_>, open: Token, close: Token) -> Option<Bracketed<'t>> {
+    let last = site.last()?;
+    let behind = next_behind(site.tokens, close.start)?;
+    let is_name = last.kind == Kind::Ident && !is_language_type(site.word_of(Some(last)));
+    let end = match behind.kind {
+        Kind::Of => behind.end,
+        Kind::Colon if is_name => behind.end,
+        _ => close.end,
+    };
+    let plain = Bracketed {
+        begin: open.start,
+        end,
+        front: b"",
+        element: b"",
+        told: "in its place",
+    };
+    match (last.kind, kind_or_name(site.second())) {
+        (Kind::Ident, Kind::Colon) => Some(Bracketed {
+            begin: last.start,
+            element: site.word_of(Some(last)),
+            told: " in its place",
+            ..plain
+        }),
+        (Kind::Ident, Kind::Var | Kind::Semicolon | Kind::Comma | Kind::Record)
+            if is_name && begins_element(behind) => {
+            Some(Bracketed {
+                front: b": ",
+                ..plain
+            })
+        }
+        (Kind::Colon | Kind::Equal | Kind::Of, _) => Some(plain),
+        _ => None,
+    }
+}
+
+/// Whether the type of an element, or what leads to it, begins with a token.
+fn begins_element(token: Token) -> bool {
+    matches!(
+        token.kind,
+        Kind::Ident | Kind::Array | Kind::Record | Kind::Of | Kind::Colon | Kind::LeftBracket
+    )
+}
+
+/// Whether a word is a type of the language.
+fn is_language_type(word: &[u8]) -> bool {
+    is_same(word, b"INTEGER") || is_same(word, b"BOOLEAN")
+}
+
+/// Puts the length that stands between these brackets; 1 for none, and of `0..7` the number of the indices.
+fn put_length(
+    put: &mut Vec<u8>,
+    site: &Site<'_, '_>,
+    open: Token,
+    close: Token,
+) -> Result<(), AllocError> {
+    let length = between(site.text, open.end, close.start);
+    let mut buffer = Buffer::new();
+    if length.is_empty() {
+        put.extend_from_slice(b"1")
+    } else {
+        match indices_behind(site, open, close.start) {
+            Some(count) => put.extend_from_slice(buffer.format(count).as_bytes()),
+            None => put.extend_from_slice(length),
+        }
+    }
+}
+
+/// How many indices `0..7` has, as it stands behind a token and ends up to a place.
+fn indices_behind(site: &Site<'_, '_>, leader: Token, end: usize) -> Option<usize> {
+    let first = first_behind(site.tokens, leader.start, &[Kind::Number])?;
+    let last = first_behind(site.tokens, first.start, &[Kind::Number])?;
+    let (_, dots) = halves(site.text, first.end);
+    if end < last.end || !dots.starts_with(b"..") {
+        return None;
+    }
+    let most = number_at(site, last).saturating_add(1);
+    Some(most.saturating_sub(number_at(site, first)))
 }
 
 /// The mending of `x: VAR INTEGER` in a heading: VAR stands before the name.
@@ -238,6 +322,64 @@ pub fn truth_mending(alloc: Global, site: &Site<'_, '_>) -> Result<Option<Mendin
     }
 }
 
+/// The mending of `~a = b` where a is no BOOLEAN: `~(a = b)`.
+pub fn not_mending(alloc: Global, site: &Site<'_, '_>) -> Result<Option<Mending>, AllocError> {
+    let (Some(not), Some(first), Some(end)) = (
+        site.here(),
+        site.next(),
+        comparison_end(site.behind),
+    ) else {
+        return Ok(None);
+    };
+    let whole = between(site.text, first.start, end);
+    if not.kind != Kind::Not || whole.contains(&b'\n') || !are_known(site, first.start, end) {
+        return Ok(None);
+    }
+    let mut put = Vec::from_slice(alloc, b"~(")?;
+    put.extend_from_slice(whole)?;
+    put.push(b')')?;
+    let taken = end.saturating_sub(not.start);
+    worded(alloc, not.start, taken, &put, " in its place")
+}
+
+/// Where the one comparison ends that begins with these tokens: before what is joined to it, or closes what it stands in.
+fn comparison_end(tokens: &[Token]) -> Option<usize> {
+    let mut inside: usize = 0;
+    let mut end = None;
+    let mut relations: usize = 0;
+    for token in tokens {
+        if inside == 0 && !goes_on(token.kind) {
+            return if relations == 1 { end } else { None };
+        }
+        match token.kind {
+            Kind::LeftParen | Kind::LeftBracket => inside = inside.saturating_add(1),
+            Kind::RightParen | Kind::RightBracket => inside = inside.saturating_sub(1),
+            kind if inside == 0 && is_relation(kind) => relations = relations.saturating_add(1),
+            _ => {}
+        }
+        end = Some(token.end);
+    }
+    None
+}
+
+/// Whether a comparison goes on with a token.
+fn goes_on(kind: Kind) -> bool {
+    is_relation(kind)
+        || matches!(
+            kind,
+            Kind::Ident
+                | Kind::Number
+                | Kind::Dot
+                | Kind::LeftParen
+                | Kind::LeftBracket
+                | Kind::Plus
+                | Kind::Minus
+                | Kind::Times
+                | Kind::Div
+                | Kind::Mod
+        )
+}
+
 /// The bracket that closes this one, if no `..` stands between them.
 fn bracket_around(site: &Site<'_, '_>, open: Token) -> Option<Token> {
     let ends = &[Kind::RightBracket, Kind::Dot, Kind::Semicolon];
@@ -264,28 +406,16 @@ pub fn range_mending(alloc: Global, site: &Site<'_, '_>) -> Result<Option<Mendin
         let taken = close.end.saturating_sub(open.start);
         return worded(alloc, open.start, taken, length, " in its place");
     }
-    let first = first_behind(site.tokens, gap.leader.start, &[Kind::Number]);
-    let (Some(begin), Some(first)) = (begin, first) else {
+    let (Some(begin), Some(count)) = (begin, indices_behind(site, gap.leader, gap.end.start)) else {
         return Ok(None);
     };
-    let Some(last) = first_behind(site.tokens, first.start, &[Kind::Number]) else {
-        return Ok(None);
-    };
-    let (_, dots) = halves(site.text, first.end);
-    if gap.leader.kind != Kind::Array || gap.end.start < last.end || !dots.starts_with(b"..") {
+    if gap.leader.kind != Kind::Array {
         return Ok(None);
     }
     let mut buffer = Buffer::new();
-    let most = number_at(site, last).saturating_add(1);
-    let length = buffer.format(most.saturating_sub(number_at(site, first)));
     let taken = gap.end.start.saturating_sub(begin.start);
-    worded(
-        alloc,
-        begin.start,
-        taken,
-        length.as_bytes(),
-        " in its place",
-    )
+    let length = buffer.format(count).as_bytes();
+    worded(alloc, begin.start, taken, length, " in its place")
 }
 
 /// The number that a token is.

@@ -14,8 +14,9 @@ use ob_mendings::fix::{
     left_out, worded,
 };
 use ob_mendings::mending::Mending;
-use ob_mendings::part::is_in_body;
+use ob_mendings::part::{SECTIONS, is_in_body};
 use ob_mendings::tokens::{first_behind, first_of, length_of};
+use ob_part_mendings::headings::count_of;
 use ob_scan::{Kind, Token};
 use std::alloc::{AllocError, Global};
 
@@ -87,7 +88,7 @@ fn closes_around(here: Option<Token>, kind: Kind) -> bool {
     }
 }
 
-/// The mending of an END at which a name is missing: by the name of what it closes, or without it, where the next END has that name.
+/// The mending of an END at which a name is missing: by the name of what it closes, or without it, where a later END closes that.
 pub(crate) fn nameless_end(
     alloc: Global,
     site: &Site<'_, '_>,
@@ -99,8 +100,7 @@ pub(crate) fn nameless_end(
         return Ok(None);
     }
     let name = name_of(site, unit);
-    let is_ended = is_kind(site.here(), Kind::End) && site.word_of(site.next()) == name;
-    if is_ended || next_ended(site) == name {
+    if is_ended_behind(site, unit) || next_ended(site) == name {
         return fixed(alloc, end.start, length_of(Some(end)), END_LEFT_OUT);
     }
     let mut put = Vec::from_slice(alloc, b"END ")?;
@@ -112,6 +112,33 @@ pub(crate) fn nameless_end(
         &put,
         " written there",
     )
+}
+
+/// Whether an END from the place on closes what this token begins, with no section between: with its name, or with one that no heading has.
+fn is_ended_behind(site: &Site<'_, '_>, unit: Token) -> bool {
+    let mut last = site.here();
+    for token in site.behind {
+        if SECTIONS.contains(&kind_or_name(last)) {
+            return false;
+        }
+        if is_kind(last, Kind::End) && token.kind == Kind::Ident {
+            return ends_unit(site, unit, *token);
+        }
+        last = Some(*token);
+    }
+    false
+}
+
+/// Whether a name behind an END is meant to be that of what this token begins.
+fn ends_unit(site: &Site<'_, '_>, unit: Token, name: Token) -> bool {
+    let word = site.word_of(Some(name));
+    let mark = if unit.kind == Kind::Module {
+        Kind::Dot
+    } else {
+        Kind::Semicolon
+    };
+    word == name_of(site, unit)
+        || is_kind(next_behind(site.tokens, name.start), mark) && count_of(site, word, true) == 0
 }
 
 /// The mending that puts the END of the last procedure, with its name, before another END, behind which the name of the module stands.

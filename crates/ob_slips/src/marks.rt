@@ -174,6 +174,8 @@ const MARKS: &[Mark] = marks! {
     &[], Nothing, &[Kind::Then, Kind::Do, Kind::End, Kind::Else, Kind::Elsif, Kind::Until], &[], Kind::RightParen => Before PAREN_BEFORE;
     &[], Nothing, &[Kind::Semicolon], &[Kind::If, Kind::While, Kind::Repeat, Kind::End, Kind::Else, Kind::Elsif, Kind::Until],
         Kind::RightParen => Before PAREN_BEFORE;
+    // `P(&x)`, `P(VAR x)`
+    &[Kind::LeftParen, Kind::Comma], Nothing, &[Kind::And, Kind::Var], &[Kind::Ident], Kind::Number => There NOTHING;
     // `P(x 1)`
     &[Kind::LeftParen, Kind::Comma], Nothing, &[Kind::Ident, Kind::Number], &[Kind::Comma, Kind::RightParen], Kind::Comma => Before COMMA_BEFORE;
     // `x := = 1`, `b :== 2`, `b := := 3`

@@ -7,12 +7,13 @@ use crate::ends::{
 use crate::marks::{mark_mending, semicolon_behind};
 use crate::names::{end_mending, near_mending};
 use crate::words::{
-    alone_before, alone_there, colon_mending, index_mending, keyword_mending, misspelt_before,
-    misspelt_first, misspelt_there, pointer_mending, prefix_mending, swapped_mending, type_mending,
+    alone_before, alone_there, call_mending, colon_mending, index_mending, keyword_mending,
+    misspelt_before, misspelt_first, misspelt_there, pointer_mending, prefix_mending,
+    record_mending, size_mending, swapped_mending, type_mending,
 };
 use ob_check::TextFault;
 use ob_evidence::small_keywords::first_of_statement;
-use ob_evidence::text_site::{Site, is_kind, look_around};
+use ob_evidence::text_site::{Site, is_kind, kind_or_name, look_around};
 use ob_explain_names::expected::expected_kinds;
 use ob_explain_sentences::first_word::word_at;
 use ob_explain_sentences::place::halves;
@@ -20,7 +21,7 @@ use ob_mendings::comments::{comment_mending, line_mending, word_mending, words_m
 use ob_mendings::fix::{SEMICOLON_THERE, fixed};
 use ob_mendings::mending::{Mending, Told, mended};
 use ob_mendings::origin::{Move, origin};
-use ob_mendings::part::part_mending;
+use ob_mendings::part::{is_in_body, part_mending};
 use ob_mendings::rewritten::{count_mending, for_mending, paren_mending};
 use ob_mendings::sections::order_mending;
 use ob_mendings::signs::{assign_mending, byte_mending, number_mending, sign_mending};
@@ -28,19 +29,19 @@ use ob_mendings::tokens::{ends_line, length_of};
 use ob_mendings::verdict::verdict;
 use ob_parser::parser::ParseFault;
 use ob_part_mendings::constructs::{
-    bar_mending, block_mending, body_mending, empty_mending, level_mending, loop_mending,
-    whole_mending,
+    bar_mending, block_mending, body_mending, choice_mending, empty_mending, level_mending,
+    loop_mending, whole_mending,
 };
 use ob_part_mendings::declarations::{
-    declared_mending, initial_mending, late_mending, listed_mending, local_mending,
+    declared_mending, initial_mending, late_mending, listed_mending, local_mending, moved_mending,
     parameter_mending, twice_mending,
 };
 use ob_part_mendings::headings::{
     export_mending, heading_mending, late_star_mending, star_mending,
 };
 use ob_part_mendings::values::{
-    length_mending, out_mending, range_mending, result_mending, truth_mending, typed_mending,
-    value_mending, var_mending,
+    length_mending, not_mending, out_mending, range_mending, result_mending, truth_mending,
+    typed_mending, value_mending, var_mending,
 };
 use ob_scan::{Kind, ScanFault};
 use ob_scopes::fault::CheckFault;
@@ -66,11 +67,14 @@ enum Sort {
     MisspeltFirst,
     /// The word before a name that is declared.
     Prefix,
-    /// A type before its name, and POINTER TO before one.
+    /// A type before its name, POINTER TO before one, and a word for RECORD.
     Swapped,
     Pointer,
-    /// An index between parentheses.
+    Record,
+    /// An index between parentheses, a call in an assignment, and the length of an array.
     Index,
+    Call,
+    Size,
     /// By the tokens around the place.
     Mark,
     /// A keyword in small letters before a `:`; one that stands alone, before the place or there.
@@ -116,21 +120,25 @@ enum Sort {
     Length,
     Star,
     Unended,
-    /// A 0 or a 1 for FALSE or TRUE, and an END that is missing before another one.
+    /// A `~` before a comparison, a 0 or a 1 for FALSE or TRUE, and an END that is missing before another one.
+    Not,
     Truth,
     Inner,
-    /// A name of another level. A block that ends before an ELSE, a CASE, there or at a `|` in it, a FOR of another form, a variable declared
-    /// where it is assigned first, a VAR in a body, an assignment of nothing, and the whole body.
+    /// A name of another level. A block that ends before an ELSE, a CASE, there or at a `|` in it, a `? :`, a FOR of another form, a variable
+    /// declared where it is assigned first, a VAR in a body, an assignment of nothing, and the whole body.
     Block,
     Whole,
     Bar,
+    Choice,
     Loop,
     Local,
     Late,
     Empty,
     Level,
     Body,
-    /// A name that is not declared, a type that lists names, a variable declared with a value, a parameter without VAR, the name in a heading, and a `*` behind one.
+    /// A procedure that is declared further down, a name that is not declared, a type that lists names, a variable declared with a value, a
+    /// parameter without VAR, the name in a heading, and a `*` behind one.
+    Moved,
     Declared,
     Listed,
     Initial,
@@ -159,11 +167,14 @@ const OF_TOKENS: &[Sort] = &[
     Sort::MisspeltBefore,
     Sort::MisspeltFirst,
     Sort::Out,
+    Sort::Record,
     Sort::Length,
     Sort::Prefix,
     Sort::Swapped,
     Sort::Pointer,
     Sort::Index,
+    Sort::Call,
+    Sort::Size,
     Sort::For,
     Sort::Loop,
     Sort::Paren,
@@ -197,6 +208,7 @@ const OF_NAMES: &[Sort] = &[
     Sort::Type,
     Sort::Near,
     Sort::Count,
+    Sort::Moved,
     Sort::Declared,
     Sort::Part,
     Sort::Value,
@@ -216,7 +228,7 @@ pub(crate) fn slip_mending(
     let site = found.site(text, place);
     for sort in sorts_of(fault) {
         if let Some(mending) = mending_of(alloc, &site, *sort)?
-            && helps(alloc, text, fault, &mending)?
+            && helps(alloc, &site, fault, &mending)?
         {
             return Ok(Some(mending));
         }
@@ -227,7 +239,7 @@ pub(crate) fn slip_mending(
 /// The sorts that are tried at a fault, in this order.
 fn sorts_of(fault: TextFault) -> &'static [Sort] {
     match fault {
-        TextFault::Scan(ScanFault::StrayByte(_)) => &[Sort::Bar, Sort::Byte],
+        TextFault::Scan(ScanFault::StrayByte(_)) => &[Sort::Bar, Sort::Choice, Sort::Byte],
         TextFault::Scan(ScanFault::NumberTooLarge(_)) => &[Sort::Number],
         TextFault::Scan(ScanFault::OpenComment(_)) => &[Sort::Comment],
         TextFault::Parse(ParseFault::Unexpected(_)) => OF_TOKENS,
@@ -240,6 +252,7 @@ fn sorts_of(fault: TextFault) -> &'static [Sort] {
             Rule::BadExport => &[Sort::Export],
             Rule::WrongLevel => &[Sort::Level, Sort::Part, Sort::Body],
             _ => &[
+                Sort::Not,
                 Sort::Truth,
                 Sort::Paren,
                 Sort::Part,
@@ -297,13 +310,17 @@ fn mending_of(
         Sort::Part => part_mending(alloc, site),
         Sort::Value => value_mending(alloc, site),
         Sort::Index => index_mending(alloc, site),
+        Sort::Call => call_mending(alloc, site),
+        Sort::Size => size_mending(alloc, site),
         Sort::Pointer => pointer_mending(alloc, site),
+        Sort::Record => record_mending(alloc, site),
         Sort::Typed => typed_mending(alloc, site),
         Sort::Out => out_mending(alloc, site),
         Sort::Length => length_mending(alloc, site),
         Sort::Star => star_mending(alloc, site),
         Sort::Unended => unended_mending(alloc, site),
         Sort::Var => var_mending(alloc, site),
+        Sort::Not => not_mending(alloc, site),
         Sort::Truth => truth_mending(alloc, site),
         Sort::Inner => inner_end(alloc, site),
         Sort::Range => range_mending(alloc, site),
@@ -312,12 +329,14 @@ fn mending_of(
         Sort::Listed => listed_mending(alloc, site),
         Sort::Whole => whole_mending(alloc, site),
         Sort::Bar => bar_mending(alloc, site.text, site.place),
+        Sort::Choice => choice_mending(alloc, site.text, site.place),
         Sort::Loop => loop_mending(alloc, site),
         Sort::Local => local_mending(alloc, site),
         Sort::Late => late_mending(alloc, site),
         Sort::Empty => empty_mending(alloc, site),
         Sort::Level => level_mending(alloc, site),
         Sort::Body => body_mending(alloc, site),
+        Sort::Moved => moved_mending(alloc, site),
         Sort::Declared => declared_mending(alloc, site),
         Sort::Initial => initial_mending(alloc, site),
         Sort::Parameter => parameter_mending(alloc, site),
@@ -350,16 +369,35 @@ fn second_var(alloc: Global, site: &Site<'_, '_>) -> Result<Option<Mending>, All
 /// Whether a text has no fault with a mending, or one further on.
 fn helps(
     alloc: Global,
-    text: &[u8],
+    site: &Site<'_, '_>,
     fault: TextFault,
     mending: &Mending,
 ) -> Result<bool, AllocError> {
-    let whole = mended(alloc, text, mending)?;
+    let whole = mended(alloc, site.text, mending)?;
     match verdict(alloc, &whole)? {
         Some(next) => Ok(
-            is_further(mending.moves(), fault, next) && is_shown(text, &whole, mending, next),
+            (is_further(mending.moves(), fault, next) || ends_section(site, mending, next))
+                && is_shown(site.text, &whole, mending, next),
         ),
         None => Ok(true),
+    }
+}
+
+/// Whether a mending puts the `;` that is missing among declarations before a section which stands too late: the fault behind it is that.
+fn ends_section(site: &Site<'_, '_>, mending: &Mending, next: TextFault) -> bool {
+    let is_section = matches!(
+        kind_or_name(site.here()),
+        Kind::Const | Kind::Type | Kind::Var
+    );
+    match (place_of(next), mending.put.as_slice()) {
+        (Some(place), [b';']) => {
+            is_section
+                && mending.taken == 0
+                && !is_kind(site.last(), Kind::Semicolon)
+                && !is_in_body(site.before)
+                && origin(mending.moves(), place) == site.place
+        }
+        _ => false,
     }
 }
 

@@ -1,6 +1,7 @@
 //! Words of other languages that are slips, keywords in small letters or misspelt, and words that stand alone as a statement, where they are
 //! read as a call.
 
+use ob_clues::calls::{call_meant, length_meant};
 use ob_clues::procedure_names::is_procedure;
 use ob_diagnosis::keywords::{keyword_before, keyword_first, keyword_there};
 use ob_evidence::lone_names::lone_end;
@@ -9,20 +10,21 @@ use ob_evidence::small_keywords::{capitals, first_of_statement, next_behind, sma
 use ob_evidence::text_site::{Site, is_kind, kind_or_name, rest_of};
 use ob_explain_names::declarations::first_of;
 use ob_explain_sentences::first_word::is_same_in_any_case;
+use ob_explain_sentences::function_rows::LENGTH_WORDS;
 use ob_explain_sentences::kinds::sample;
 use ob_explain_tokens::open::{is_in_record, open_construct};
 use ob_explain_tokens::parens::is_in_parens;
 use ob_explain_words::declaring::declares;
 use ob_mendings::capitals::small_words;
 use ob_mendings::fix::{
-    AND_WORD, BOOLEAN, ELSIF_WORD, END_WORD, Fix, INTEGER, LOOP_WORD, MODULE_WORD, NOT_WORD,
-    POINTER, PROCEDURE_THERE, PROCEDURE_WORD, SEMICOLON_THERE, UNEQUAL_WORD, VAR_THERE, VAR_WORD,
-    WORD_BEFORE, bytes_of, changed, fixed, worded,
+    AND_WORD, BOOLEAN, ELSIF_WORD, END_WORD, EQUAL_RECORD, Fix, INTEGER, LOOP_WORD, MODULE_WORD,
+    NOT_WORD, POINTER, PROCEDURE_THERE, PROCEDURE_WORD, RECORD_WORD, SEMICOLON_THERE, UNEQUAL_WORD,
+    VAR_THERE, VAR_WORD, WORD_BEFORE, bytes_of, changed, fixed, worded,
 };
 use ob_mendings::mending::{Elsewhere, Mending, Told};
-use ob_mendings::part::{ENDS, is_in_body};
+use ob_mendings::part::{ENDS, is_in_body, part_at};
 use ob_mendings::rewritten::are_known;
-use ob_mendings::tokens::{between, first_of as token_of, last_before, length_of};
+use ob_mendings::tokens::{between, first_behind, first_of as token_of, last_before, length_of};
 use ob_scan::{Kind, Token};
 use std::alloc::{AllocError, Global};
 
@@ -116,6 +118,14 @@ const TYPES: &[Foreign] = words! {
     b"FLOAT" => INTEGER;
     b"DOUBLE" => INTEGER;
     b"BOOL" => BOOLEAN;
+};
+
+/// Words for RECORD in other languages.
+const RECORDS: &[Foreign] = words! {
+    b"STRUCT" => RECORD_WORD;
+    b"CLASS" => RECORD_WORD;
+    b"OBJECT" => RECORD_WORD;
+    b"UNION" => RECORD_WORD;
 };
 
 /// Where one of these stands, it shows which constructs are open.
@@ -443,45 +453,86 @@ pub(crate) fn swapped_mending(
     } else {
         (site.last(), site.here(), site.next())
     };
-    match (named, name, kind_or_name(end)) {
-        (Some(named), Some(name), Kind::Semicolon | Kind::RightParen) if name.kind == Kind::Ident =>
-            { declared_so(alloc, site, named, name) }
+    let (Some(named), Some(name), Some(end)) = (named, name, end) else {
+        return Ok(None);
+    };
+    match tail_from(site, name, end) {
+        Some(tail) if name.kind == Kind::Ident => declared_so(alloc, site, named, name, tail),
         _ => Ok(None),
     }
 }
 
-/// The mending of the name of a type and a name behind it.
+/// What stands behind a type and a name: the length of an array, if there is one, and where the declaration ends.
+#[derive(Clone, Copy)]
+struct Tail<'t> {
+    length: &'t [u8],
+    end: usize,
+}
+
+/// What stands behind this name, from that token on: nothing, a length in brackets, or a value, which is told of next.
+fn tail_from<'t>(site: &Site<'t, '_>, name: Token, first: Token) -> Option<Tail<'t>> {
+    let ends = &[Kind::RightBracket, Kind::Semicolon];
+    match first.kind {
+        Kind::Semicolon | Kind::RightParen | Kind::Equal | Kind::Assign => Some(Tail {
+            length: b"",
+            end: name.end,
+        }),
+        Kind::LeftBracket => {
+            let close = first_behind(site.tokens, first.start, ends)?;
+            let behind = next_behind(site.tokens, close.start)?;
+            if close.kind != Kind::RightBracket || behind.kind != Kind::Semicolon {
+                return None;
+            }
+            Some(Tail {
+                length: between(site.text, first.end, close.start),
+                end: close.end,
+            })
+        }
+        _ => None,
+    }
+}
+
+/// The mending of the name of a type and a name behind it, with what stands behind that.
 fn declared_so(
     alloc: Global,
     site: &Site<'_, '_>,
     named: Token,
     name: Token,
+    tail: Tail<'_>,
 ) -> Result<Option<Mending>, AllocError> {
     let Some(meant) = type_meant(site.word_of(Some(named))) else {
         return Ok(None);
     };
-    let section = token_of(
-        site.before,
-        &[
-            Kind::Var,
-            Kind::Const,
-            Kind::Type,
-            Kind::Module,
-            Kind::Procedure,
-        ],
-    );
-    let is_in_list = is_in_parens(site.before) || is_in_record(site.before);
-    let front: &[u8] = if is_in_list || is_kind(section, Kind::Var) {
+    let mut put = Vec::from_slice(alloc, section_for(site))?;
+    put.extend_from_slice(site.word_of(Some(name)))?;
+    put.extend_from_slice(b": ")?;
+    if !tail.length.is_empty() {
+        put.extend_from_slice(b"ARRAY ")?;
+        put.extend_from_slice(tail.length)?;
+        put.extend_from_slice(b" OF ")?;
+    }
+    put.extend_from_slice(meant)?;
+    let taken = tail.end.saturating_sub(named.start);
+    worded(alloc, named.start, taken, &put, " in its place")
+}
+
+/// What stands before the name of a variable that is declared at the place: nothing in a record, a list of parameters or a section of variables.
+fn section_for(site: &Site<'_, '_>) -> &'static [u8] {
+    // a VAR among the parameters of a heading begins no section
+    let kinds = [
+        Kind::Var,
+        Kind::Const,
+        Kind::Type,
+        Kind::Module,
+        Kind::Procedure,
+        Kind::RightParen,
+    ];
+    let section = token_of(site.before, &kinds);
+    if is_in_parens(site.before) || is_in_record(site.before) || is_kind(section, Kind::Var) {
         b""
     } else {
         b"VAR "
-    };
-    let mut put = Vec::from_slice(alloc, front)?;
-    put.extend_from_slice(site.word_of(Some(name)))?;
-    put.extend_from_slice(b": ")?;
-    put.extend_from_slice(meant)?;
-    let taken = name.end.saturating_sub(named.start);
-    worded(alloc, named.start, taken, &put, " in its place")
+    }
 }
 
 /// The mending of an index between parentheses, as `a(i)` of a variable: brackets.
@@ -502,6 +553,47 @@ pub(crate) fn index_mending(
         }
         _ => Ok(None),
     }
+}
+
+/// The mending of `v := P(x)`, where P gives a value by a VAR parameter behind that: `P(x, v)`.
+pub(crate) fn call_mending(
+    alloc: Global,
+    site: &Site<'_, '_>,
+) -> Result<Option<Mending>, AllocError> {
+    let call = call_meant(alloc, site)?;
+    match part_at(site) {
+        Some(part) if !call.is_empty() && are_known(site, part.first.start, part.end.start) => {
+            let whole = between(site.text, part.first.start, part.end.start);
+            worded(alloc, part.first.start, whole.len(), &call, " in its place")
+        }
+        _ => Ok(None),
+    }
+}
+
+/// The mending of `len(a)`: the length in the declaration of the array.
+pub(crate) fn size_mending(
+    alloc: Global,
+    site: &Site<'_, '_>,
+) -> Result<Option<Mending>, AllocError> {
+    let length = length_meant(site);
+    match (site.last(), first_of(rest_of(site.behind))) {
+        (Some(name), Some(close))
+            if !length.is_empty() && is_new(site, name) && is_length(site.word_of(Some(name))) => {
+            let taken = close.end.saturating_sub(name.start);
+            worded(alloc, name.start, taken, length, " in its place")
+        }
+        _ => Ok(None),
+    }
+}
+
+/// Whether a word asks for the length of an array in other languages.
+fn is_length(word: &[u8]) -> bool {
+    for other in LENGTH_WORDS {
+        if is_same_in_any_case(word, other.as_bytes()) {
+            return true;
+        }
+    }
+    false
 }
 
 /// The mending that puts brackets for these parentheses, if the name of a variable stands before them.
@@ -564,11 +656,43 @@ pub(crate) fn type_mending(
     site: &Site<'_, '_>,
 ) -> Result<Option<Mending>, AllocError> {
     match first_same(TYPES, site.word()) {
-        Some(word) if is_kind(site.last(), Kind::Colon) || is_kind(site.last(), Kind::Of) => {
+        Some(word) if matches!(kind_or_name(site.last()), Kind::Colon | Kind::Of) => {
             fixed(alloc, site.place, length_of(site.here()), word.fix)
         }
         _ => Ok(None),
     }
+}
+
+/// The mending of a word for RECORD, behind the `=` of a type or behind its name alone.
+pub(crate) fn record_mending(
+    alloc: Global,
+    site: &Site<'_, '_>,
+) -> Result<Option<Mending>, AllocError> {
+    let (Some(last), Some(here)) = (site.last(), site.here()) else {
+        return Ok(None);
+    };
+    let leader = kind_or_name(site.second());
+    let is_behind_name = matches!(leader, Kind::Type | Kind::Semicolon);
+    if is_in_body(site.before) {
+        return Ok(None);
+    }
+    if is_behind_name && last.kind == Kind::Ident && is_record_word(site, here) {
+        fixed(alloc, here.start, length_of(Some(here)), EQUAL_RECORD)
+    } else if leads_to_type(leader) && here.kind == Kind::Ident && is_record_word(site, last) {
+        fixed(alloc, last.start, length_of(Some(last)), RECORD_WORD)
+    } else {
+        Ok(None)
+    }
+}
+
+/// Whether a token is a word for RECORD that the text does not declare.
+fn is_record_word(site: &Site<'_, '_>, token: Token) -> bool {
+    is_new(site, token) && first_same(RECORDS, site.word_of(Some(token))).is_some()
+}
+
+/// Whether a type stands behind a token.
+fn leads_to_type(kind: Kind) -> bool {
+    matches!(kind, Kind::Equal | Kind::Colon | Kind::Of)
 }
 
 /// The first of these that a word is.
