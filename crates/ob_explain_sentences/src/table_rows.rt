@@ -246,7 +246,7 @@ pub enum PieceOf<Text> {
     Text(Text),
     /// A name as it is written.
     Name,
-    /// Two numbers as they are written; the first is a list of fields too.
+    /// Two numbers as they are written; the first is a list of fields or a call too, the second the length of an array.
     First,
     Second,
     /// What could stand there.

@@ -50,7 +50,7 @@ character`.
   MODULE M; VAR x: INTEGER; BEGIN x := 6 // 2; END M.
     S1 at 39
     hint: a quotient is written with DIV
-  .. and 6 more, in docs/FAULTS.md
+  .. and 7 more, in docs/FAULTS.md
 
 Shown in its text by `obl0 explain a.mod`.
 ",
@@ -236,7 +236,7 @@ another than that of the module or procedure is P3.
     expected a statement, `END` or `;`
     hint: the WHILE of line 1 is still open; is its END missing?
     two ENDs are missing, of which that of the WHILE comes first
-  .. and 65 more, in docs/FAULTS.md
+  .. and 70 more, in docs/FAULTS.md
 
 Shown in its text by `obl0 explain a.mod`.
 ",
