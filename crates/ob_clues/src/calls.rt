@@ -31,7 +31,9 @@ pub fn call_meant(alloc: Global, site: &Site<'_, '_>) -> Result<Vec<u8>, AllocEr
     let Some(parameters) = heading_list(site, site.word_of(Some(name))) else {
         return Ok(call);
     };
-    if assign.kind == Kind::Assign
+    if is_kind(site.here(), Kind::LeftParen)
+        && name.kind == Kind::Ident
+        && assign.kind == Kind::Assign
         && parameters.is_var
         && parameters.count == arguments.count.saturating_add(1)
     {

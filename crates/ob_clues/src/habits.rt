@@ -66,9 +66,11 @@ pub fn is_behind_part_of_procedure(site: &Site<'_, '_>) -> bool {
     }
 }
 
-/// Whether a word stands there behind a `#` and another word, and the text does not declare both: so begins a comment of other languages.
+/// Whether a word stands there behind a `#` and another word in its line, and the text does not declare both: so begins a comment of other
+/// languages.
 pub fn is_in_comment(site: &Site<'_, '_>) -> bool {
     is_kind(site.second(), Kind::NotEqual)
+        && !line_of_place(site).is_empty()
         && is_kind(site.last(), Kind::Ident)
         && is_kind(site.here(), Kind::Ident)
         && !(declares(site.text, site.tokens, site.word_of(site.last()))

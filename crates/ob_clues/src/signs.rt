@@ -38,14 +38,20 @@ fn sign_meant(before: &[u8], from: &[u8]) -> Option<Fact> {
 
 /// Whether these bytes of a line end in a condition, or in the value that is assigned.
 fn is_in_value(before: &[u8]) -> bool {
-    let mut last = b' ';
-    for byte in before {
-        if last == b':' && *byte == b'=' {
-            return true;
+    let mut is_value = false;
+    let mut last = b';';
+    for (at, byte) in before.iter().enumerate() {
+        if *byte == b';' {
+            is_value = false;
+        } else if last == b':' && *byte == b'=' {
+            is_value = true;
+        } else if !last.is_ascii_alphanumeric() {
+            let word = word_at(halves(before, at).1);
+            is_value = is_one(CONDITIONS, word) || is_value && !is_one(BEFORE_STATEMENTS, word);
         }
         last = *byte;
     }
-    is_one(CONDITIONS, word_at(before.trim_ascii()))
+    is_value
 }
 
 /// Whether a `'` stands in these bytes behind several letters of ASCII.

@@ -325,7 +325,7 @@ pub const SYMBOL_ROWS: &[Row] = rows! {
     [Here(&[Kind::Equal]), Last(&[Kind::Equal]), Not(Fact::Touching)] => &[PieceOf::Text("is one = too many?")];
     [Here(&[Kind::Assign]), Last(&[Kind::Assign, Kind::Equal])] => &[PieceOf::Text("is one := too many?")];
     [Here(&[Kind::Assign]), Last(&[Kind::RightParen]), Never(&[Kind::And])] => INDEX;
-    [Here(&[Kind::Assign]), Is(Fact::BehindAssign)] => SEPARATED;
+    [Here(&[Kind::Assign]), Could(&[Kind::Semicolon]), Is(Fact::BehindAssign)] => SEPARATED;
     [Sign("=:"), Could(&[Kind::Assign])] => &[PieceOf::Text("an assignment is written with :=")];
     [Here(&[Kind::Equal]), Could(&[Kind::Assign])] => &[PieceOf::Text("= compares, and := assigns")];
     [Sign("<-"), Could(&[Kind::Assign])] => &[PieceOf::Text("an assignment is written with :=")];

@@ -137,14 +137,17 @@ fn opened_by(line: &[u8]) -> Fix {
     }
 }
 
-/// What is put for a `}` with which these bytes begin: nothing before an ELSE, and an END with its `;` before another statement.
+/// What is put for a `}` with which these bytes begin: nothing before an ELSE or an UNTIL, and an END with its `;` before another statement.
 fn closed_before(from: &[u8]) -> Fix {
     let behind = after_brace(from);
     let word = word_at(behind);
     let line = after_brace(line_of(from));
     let (_, rest) = halves(line, word_at(line).len());
     let is_ended = matches!(rest.trim_ascii_start(), [b';' | b'.', ..]);
-    if is_same_in_any_case(word, b"ELSE") || is_same_in_any_case(word, b"ELSIF") {
+    if is_same_in_any_case(word, b"ELSE")
+        || is_same_in_any_case(word, b"ELSIF")
+        || is_same_in_any_case(word, b"UNTIL")
+    {
         BYTE
     } else if is_ended || word.is_empty() {
         END_FOR

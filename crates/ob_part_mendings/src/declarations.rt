@@ -100,23 +100,72 @@ fn procedure_end(site: &Site<'_, '_>) -> Option<Token> {
 
 /// The mending of the name of a procedure that is declared further down: that is put before the procedure in which the place stands.
 pub fn moved_mending(alloc: Global, site: &Site<'_, '_>) -> Result<Option<Mending>, AllocError> {
-    let (Some(around), Some(heading), Some(end)) = (
-        outermost(site.before),
-        heading_below(site),
-        procedure_end(site),
-    ) else {
+    match heading_below(site) {
+        Some(heading) => moved(alloc, site, heading, None),
+        None => Ok(None),
+    }
+}
+
+/// The same with its heading alone, where what stands in it needs what it would stand before.
+pub fn headed_mending(alloc: Global, site: &Site<'_, '_>) -> Result<Option<Mending>, AllocError> {
+    match heading_below(site) {
+        Some(heading) => moved(alloc, site, heading, heading_end(site, heading)),
+        None => Ok(None),
+    }
+}
+
+/// The mending that puts the procedure of this heading before the one in which the place stands: the whole, or up to the `;` of its heading.
+fn moved(
+    alloc: Global,
+    site: &Site<'_, '_>,
+    heading: Token,
+    last: Option<Token>,
+) -> Result<Option<Mending>, AllocError> {
+    let (Some(around), Some(end)) = (outermost(site.before), procedure_end(site)) else {
         return Ok(None);
     };
-    let whole = between(site.text, heading.start, end.end);
-    let mut put = in_one_line(alloc, whole)?;
-    put.push(b' ')?;
+    let mut put = Vec::new(alloc);
+    let told = match last {
+        Some(last) => {
+            let begin = between(site.text, heading.start, last.end);
+            put.extend_from_slice(&in_one_line(alloc, begin)?)?;
+            put.extend_from_slice(b" END ")?;
+            put.extend_from_slice(site.word())?;
+            put.extend_from_slice(b"; ")?;
+            Told::Line(
+                "with the heading of this procedure put before line ",
+                ", and the rest of it left out, whatever else is wrong in it",
+            )
+        }
+        None => {
+            let whole = between(site.text, heading.start, end.end);
+            put.extend_from_slice(&in_one_line(alloc, whole)?)?;
+            put.push(b' ')?;
+            Told::Line("with this procedure put before line ", "")
+        }
+    };
     Ok(Some(Mending {
         place: around.start,
         taken: 0,
         put,
-        elsewhere: Elsewhere::Moved(heading.start, whole.len()),
-        told: Told::Line("with this procedure put before line ", ""),
+        elsewhere: Elsewhere::Moved(heading.start, end.end.saturating_sub(heading.start)),
+        told,
     }))
+}
+
+/// The `;` that ends the heading which begins with this token.
+fn heading_end(site: &Site<'_, '_>, heading: Token) -> Option<Token> {
+    let mut inside: usize = 0;
+    for token in site.tokens {
+        match token.kind {
+            _ if token.start <= heading.start => {}
+            Kind::LeftParen => inside = inside.saturating_add(1),
+            Kind::RightParen => inside = inside.saturating_sub(1),
+            Kind::Semicolon if inside == 0 => return Some(*token),
+            _ => {}
+        }
+    }
+    None
 }
 
 /// The PROCEDURE behind the place behind which the name stands that stands at the place too.

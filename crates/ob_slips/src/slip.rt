@@ -33,8 +33,8 @@ use ob_part_mendings::constructs::{
     loop_mending, whole_mending,
 };
 use ob_part_mendings::declarations::{
-    declared_mending, initial_mending, late_mending, listed_mending, local_mending, moved_mending,
-    parameter_mending, twice_mending,
+    declared_mending, headed_mending, initial_mending, late_mending, listed_mending, local_mending,
+    moved_mending, parameter_mending, twice_mending,
 };
 use ob_part_mendings::headings::{
     export_mending, heading_mending, late_star_mending, star_mending,
@@ -136,9 +136,10 @@ enum Sort {
     Empty,
     Level,
     Body,
-    /// A procedure that is declared further down, a name that is not declared, a type that lists names, a variable declared with a value, a
+    /// A procedure that is declared further down, the whole or its heading alone, a name that is not declared, a type that lists names, a variable declared with a value, a
     /// parameter without VAR, the name in a heading, and a `*` behind one.
     Moved,
+    Headed,
     Declared,
     Listed,
     Initial,
@@ -209,6 +210,7 @@ const OF_NAMES: &[Sort] = &[
     Sort::Near,
     Sort::Count,
     Sort::Moved,
+    Sort::Headed,
     Sort::Declared,
     Sort::Part,
     Sort::Value,
@@ -337,6 +339,7 @@ fn mending_of(
         Sort::Level => level_mending(alloc, site),
         Sort::Body => body_mending(alloc, site),
         Sort::Moved => moved_mending(alloc, site),
+        Sort::Headed => headed_mending(alloc, site),
         Sort::Declared => declared_mending(alloc, site),
         Sort::Initial => initial_mending(alloc, site),
         Sort::Parameter => parameter_mending(alloc, site),
