@@ -8,12 +8,13 @@ use ob_explain_tokens::actuals::ends_call;
 use ob_scan::{Kind, Token};
 use std::alloc::{AllocError, Global};
 
-/// The parameters of a procedure, or the arguments of a call: how many there are, whether VAR stands before the last ones, and the `)`.
+/// The parameters of a procedure, or the arguments of a call: how many there are, whether VAR stands before the last ones, and a parenthesis
+/// around them.
 #[derive(Clone, Copy)]
 struct List {
     count: usize,
     is_var: bool,
-    end: Token,
+    paren: Token,
 }
 
 /// The call that is meant by `v := P(x)`, at whose `(` the place stands: `P(x, v)`, if P has one parameter more than that, behind VAR; else
@@ -39,7 +40,7 @@ pub fn call_meant(alloc: Global, site: &Site<'_, '_>) -> Result<Vec<u8>, AllocEr
     {
         let open = between(site.text, name.start, site.place);
         call.extend_from_slice(open.trim_ascii())?;
-        call.extend_from_slice(between(site.text, site.place, arguments.end.start))?;
+        call.extend_from_slice(between(site.text, site.place, arguments.paren.start))?;
         call.extend_from_slice(if arguments.count == 0 { b"" } else { b", " })?;
         call.extend_from_slice(between(site.text, first.start, assign.start).trim_ascii())?;
         call.push(b')')?;
@@ -64,7 +65,7 @@ fn handed_list(site: &Site<'_, '_>) -> Option<List> {
                 let list = List {
                     count,
                     is_var: false,
-                    end: *token,
+                    paren: *token,
                 };
                 return if ends_call(behind.kind) {
                     Some(list)
@@ -94,15 +95,10 @@ fn heading_list(site: &Site<'_, '_>, name: &[u8]) -> Option<List> {
                 list = Some(List {
                     count: 0,
                     is_var: false,
-                    end: *token,
+                    paren: *token,
                 });
             }
-            (Kind::RightParen, Some(found)) => {
-                return Some(List {
-                    end: *token,
-                    ..found
-                });
-            }
+            (Kind::RightParen, Some(_)) => return list,
             (Kind::Var, Some(found)) => list = Some(List {
                 is_var: true,
                 ..found
@@ -148,6 +144,15 @@ pub fn length_meant<'t>(site: &Site<'t, '_>) -> &'t [u8] {
     match length_of(site, site.word_of(site.next())) {
         Some(length) if is_kind(close, Kind::RightParen) && is_kind(site.here(), Kind::LeftParen) =>
             { length }
+        _ => b"",
+    }
+}
+
+/// The same of the array whose name alone stands before the `.` at the place.
+pub fn length_before<'t>(site: &Site<'t, '_>) -> &'t [u8] {
+    let is_alone = is_kind(site.here(), Kind::Dot) && !is_kind(site.second(), Kind::Dot);
+    match length_of(site, site.word_of(site.last())) {
+        Some(length) if is_alone => length,
         _ => b"",
     }
 }

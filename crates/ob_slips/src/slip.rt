@@ -254,6 +254,7 @@ fn sorts_of(fault: TextFault) -> &'static [Sort] {
             Rule::BadExport => &[Sort::Export],
             Rule::WrongLevel => &[Sort::Level, Sort::Part, Sort::Body],
             _ => &[
+                Sort::Size,
                 Sort::Not,
                 Sort::Truth,
                 Sort::Paren,

@@ -1,7 +1,7 @@
 //! Words of other languages that are slips, keywords in small letters or misspelt, and words that stand alone as a statement, where they are
 //! read as a call.
 
-use ob_clues::calls::{call_meant, length_meant};
+use ob_clues::calls::{call_meant, length_before, length_meant};
 use ob_clues::procedure_names::is_procedure;
 use ob_diagnosis::keywords::{keyword_before, keyword_first, keyword_there};
 use ob_evidence::lone_names::lone_end;
@@ -570,17 +570,25 @@ pub(crate) fn call_mending(
     }
 }
 
-/// The mending of `len(a)`: the length in the declaration of the array.
+/// The mending of `len(a)` and of `a.length`: the length in the declaration of the array.
 pub(crate) fn size_mending(
     alloc: Global,
     site: &Site<'_, '_>,
 ) -> Result<Option<Mending>, AllocError> {
-    let length = length_meant(site);
-    match (site.last(), first_of(rest_of(site.behind))) {
-        (Some(name), Some(close))
-            if !length.is_empty() && is_new(site, name) && is_length(site.word_of(Some(name))) => {
-            let taken = close.end.saturating_sub(name.start);
-            worded(alloc, name.start, taken, length, " in its place")
+    let is_field = is_kind(site.here(), Kind::Dot);
+    let (word, last, length) = if is_field {
+        (site.next(), site.next(), length_before(site))
+    } else {
+        let close = first_of(rest_of(site.behind));
+        (site.last(), close, length_meant(site))
+    };
+    match (site.last(), last) {
+        (Some(first), Some(last))
+            if !length.is_empty()
+                && is_length(site.word_of(word))
+                && (is_field || is_new(site, first)) => {
+            let taken = last.end.saturating_sub(first.start);
+            worded(alloc, first.start, taken, length, " in its place")
         }
         _ => Ok(None),
     }
