@@ -426,7 +426,6 @@ pub const STATEMENT_ROWS: &[Row] = rows! {
     [Here(&[Kind::Semicolon]), Last(&[Kind::Semicolon])] => &[PieceOf::Text("one ; is enough behind a declaration")];
     [Here(&[Kind::Then]), Could(&[Kind::Do])] => LEADER;
     [Here(&[Kind::Do]), Could(&[Kind::Then])] => LEADER;
-    [Here(&[Kind::Ident]), Word(&["LOOP"]), Could(&[Kind::Do])] => LEADER;
     [Here(&[Kind::Procedure]), Could(&[Kind::While]), Is(Fact::InModule)] => ORDER;
     [Here(&[Kind::Semicolon]), Next(&[Kind::Then]), Could(&[Kind::Then])] => NO_SEMICOLON;
     [Here(&[Kind::Semicolon]), Next(&[Kind::Do]), Could(&[Kind::Do])] => NO_SEMICOLON;
@@ -628,6 +627,7 @@ pub const SECTION_ROWS: &[Row] = rows! {
         Is(Fact::BehindCall),
         Is(Fact::Actual)
     ] => ACTUALS;
+    [Here(&[Kind::Ident]), Word(&["LOOP"]), Could(&[Kind::Do])] => LEADER;
 };
 
 /// Of a rule that is broken: a procedure in an expression, operators on comparisons, values of the other type, and parameters of exports and
