@@ -20,8 +20,8 @@ use ob_store::state::State;
 use smallvec::SmallVec;
 use std::alloc::{AllocError, Global};
 use wf_history::{SeenCall, SeenReply};
+use wf_lookup::compared_replies::is_same_reply;
 use wf_order::Object;
-use wf_order::compared_replies::is_same_reply;
 use wf_order::searched_object::Words;
 
 /// The object of a checked module that begins with this state, each call with so many turns.
@@ -215,6 +215,15 @@ impl<'a> Object for ModuleObject<'a> {
 
     fn copy(&self, alloc: Global, state: &KeptState) -> Result<KeptState, NoMemory> {
         state.copy(alloc)
+    }
+
+    fn is_same(
+        &self,
+        alloc: Global,
+        state: &KeptState,
+        other: &KeptState,
+    ) -> Result<bool, NoMemory> {
+        state.is_same(alloc, other)
     }
 
     fn words(&self, alloc: Global, state: &KeptState) -> Result<Words, NoMemory> {

@@ -1,6 +1,6 @@
 //! States of a module's object, as a search keeps them.
 
-ghost use Rattle.std.specs.Prelude.{◌≡◌, IfOk, IfSome, map};
+ghost use Rattle.std.specs.Prelude.{◌≡◌, ◌↔◌, IfOk, IfSome, IsTrue, map};
 ghost use Rattle.ob_code_calls.specs.Scalars.{held_of};
 ghost use Rattle.ob_object_search.specs.Kept.{kept_in};
 ghost use Rattle.ob_object_search.specs.Words.{words_of};
@@ -81,6 +81,18 @@ impl KeptState {
             }
             KeptState::Values(values) => Ok(KeptState::Values(copy_all(alloc, values.as_slice())?)),
         }
+    }
+
+    /// Whether it is the same as another one.
+    pub(crate) fn is_same(&self, alloc: Global, other: &KeptState) -> Result<bool, NoMemory>
+        ensures { IfOk result (λ same. IsTrue same ↔ (kept_in self.now ≡ kept_in other.now)) }
+    {
+        if let (KeptState::Scalars(scalars), KeptState::Scalars(others)) = (self, other) {
+            return Ok(scalars.as_slice() == others.as_slice());
+        }
+        let words = self.words(alloc)?;
+        let others = other.words(alloc)?;
+        Ok(words.as_slice() == others.as_slice())
     }
 
     /// Its words.

@@ -9,7 +9,6 @@ use crate::listed_calls::Listed;
 use ob_interface::NoMemory;
 use std::alloc::Global;
 use wf_order::Object;
-use wf_order::same_states::are_same;
 
 /// The state that a call leads to.
 pub(crate) fn after<O: Object>(
@@ -81,7 +80,7 @@ pub(crate) fn replays<O: Object>(
     ensures replays { IfOk result (λ does. IsTrue does → (last : O.Meaning) × Replays (O.effect object.now) (O.meaning without.now) all.now last) }
     ensures not { IfOk result (λ does. ¬ IsTrue does → (last : O.Meaning) → ¬ Replays (O.effect object.now) (O.meaning without.now) all.now last) }
 {
-    if are_same(alloc, object, with, without)? {
+    if object.is_same(alloc, with, without)? {
         return Ok(true);
     }
     let Some((first, rest)) = all.split_first() else {
@@ -91,7 +90,7 @@ pub(crate) fn replays<O: Object>(
         return Ok(false);
     };
     for listed in rest {
-        if are_same(alloc, object, &here.with, &here.without)? {
+        if object.is_same(alloc, &here.with, &here.without)? {
             return Ok(true);
         }
         let Some(next) = both_after(alloc, object, &here.with, &here.without, listed)? else {

@@ -1,8 +1,10 @@
 -- What is tried next, and what was tried before.
-use Rattle.std.proofs.Common.{◌≡◌, ℕ, ◌+◌, ◌<◌, ◌≤◌, List, length, Some, arith, inl, inr}
+use Rattle.std.proofs.Common.{◌≡◌, refl, ap, subst, ◌∙◌, ℕ, suc, ◌+◌, ◌<◌, ◌≤◌, List, [], ◌∷◌, ◌++◌, length, take, Some, arith, inl, inr}
 use Rattle.std.proofs.lemmas.Bool.{cases_lt}
-use Rattle.std.specs.List.{slice_get}
+use Rattle.std.proofs.lemmas.List.Elements.{Contains-push_cases}
+use Rattle.std.specs.List.{Contains, slice_get}
 use Rattle.ob_interface.specs.Call.{ObjectCall, Reply}
+use Rattle.wf_history.proofs.Positions.{take_next}
 use Rattle.wf_history.specs.declared.event.CallId.{CallId}
 use Rattle.wf_history.specs.History.{Event, Begin}
 use Rattle.wf_order.specs.declared.rows.Rows.{Rows}
@@ -11,7 +13,7 @@ use Rattle.wf_order.specs.Rows.{AreRows, begun_rows}
 use Rattle.wf_order.specs.Rules.{AreBehind, AreIdle}
 use Rattle.wf_order.specs.Search.{AreAllAnswered, AreAnswered, AreCovered, HasNoStep, IsAttempt, IsOnlyStep}
 use Rattle.wf_order.specs.Steps.{Configuration, IsLimit, IsStep}
-use Rattle.wf_order.specs.Turns.{IsFirstTurn, turns}
+use Rattle.wf_order.specs.Turns.{AreTurns, IsFirstTurn, turns}
 use Rattle.wf_order.proofs.Turning.{fewer_left, next_is, none_left, of_turn, turns_fewer}
 
 module _ {M : Type 0} (Effect : ObjectCall → M → M → Reply → Type 0) (history : List (Event ObjectCall Reply)) (found : List (Configuration M)) (c : Configuration M) (process : ℕ) where
@@ -90,3 +92,27 @@ module _ {M : Type 0} (Effect : ObjectCall → M → M → Reply → Type 0) (hi
                 | inr ge ↦ inr (only.only other e (of_its_process other e call begun at ge lt s) s)
               ];
         }
+
+-- One turn more of those before a place that comes sooner, or is the same.
+pub tried_more : (Is : ℕ → Type 0) (list : List Turn) (i : ℕ) (turn : Turn) (low first new : ℕ) → slice_get list i ≡ Some turn →
+    ((t : Turn) → Contains (take i list) t → low < t.place → t.place < first → Is t.process) → new ≤ first → (low < turn.place → turn.place < new → Is turn.process) →
+    (t : Turn) → Contains (take (i + 1) list) t → low < t.place → t.place < new → Is t.process
+tried_more Is list i turn low first new here old le own t there behind before =
+    let one : i + 1 ≡ suc i = omega arith in
+    let more : take (i + 1) list ≡ take i list ++ turn ∷ [] = ap (λ (n : ℕ). take n list) one ∙ take_next list i turn here in
+    elim (Contains-push_cases (take i list) turn t (subst (λ (l : List Turn). Contains l t) more there)) [
+      | inl earlier ↦ old t earlier behind (omega (arith, before, le))
+      | inr same ↦
+          let place : turn.place ≡ t.place = ap (λ (x : Turn). x.place) same in
+          subst Is (ap (λ (x : Turn). x.process) same) (own (omega (arith, behind, place)) (omega (arith, before, place)))
+    ]
+
+-- What begins from one place up to another is covered, where the turns between them were tried, or need not be.
+pub covered_by_turns : {M : Type 0} (Effect : ObjectCall → M → M → Reply → Type 0) (history : List (Event ObjectCall Reply)) (rows : Rows) (found : List (Configuration M)) (c : Configuration M) → AreRows history (length c.counts) rows →
+    (limit : ℕ) → IsLimit history c.counts limit → (low from to : ℕ) (list : List Turn) → low ≤ from → AreTurns rows c.counts (length c.counts) low limit list →
+    ((turn : Turn) → Contains list turn → from ≤ turn.place → turn.place < to → AreAnswered Effect history found c turn.process) → AreCovered Effect history found c from to
+covered_by_turns Effect history rows found c are limit bound low from to list le every tried id d call begun at behind before s =
+    let n = next_is Effect history rows c are limit bound id d s call begun at in
+    let place = n.2 in
+    let early = n.3 in
+    tried (record { process = id.process; place = n.0.place }) (every.all id.process n.0 s.process n.1 (omega (arith, place, le, behind)) (omega (arith, place, early))) (omega (arith, place, behind)) (omega (arith, place, before)) id d refl s

@@ -15,10 +15,10 @@ nothing_at n k none =
     ]
 
 -- no call is
-pub none_made : {S M : Type 0} (meaning : S → M) (words_of : M → List ℕ) (Effect : ObjectCall → M → M → Reply → Type 0) (calls : MadeCalls S) → calls.rows.items ≡ replicate 64 None → AreMade meaning words_of Effect calls
+pub none_made : {S M : Type 0} (meaning : S → M) (words_of : M → List ℕ) (Effect : ObjectCall → M → M → Reply → Type 0) (calls : MadeCalls S) → calls.rows.items ≡ replicate 256 None → AreMade meaning words_of Effect calls
 none_made {S} meaning words_of Effect calls is = record {
-  whole = ap length is ∙ length-replicate {A = Option (MadeCall S)} 64 None;
+  whole = ap length is ∙ length-replicate {A = Option (MadeCall S)} 256 None;
   each = λ row made at.
-      let none : ◌≡◌ {A = Option (MadeCall S)} None (Some made) = sym (nothing_at {A = Option (MadeCall S)} 64 row None) ∙ ap (λ (l : List (Option (MadeCall S))). get_or l row None) (sym is) ∙ at in
+      let none : ◌≡◌ {A = Option (MadeCall S)} None (Some made) = sym (nothing_at {A = Option (MadeCall S)} 256 row None) ∙ ap (λ (l : List (Option (MadeCall S))). get_or l row None) (sym is) ∙ at in
       absurd (cc);
 }

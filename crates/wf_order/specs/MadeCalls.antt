@@ -33,7 +33,7 @@ module _ {S M : Type 0} (meaning : S → M) (words_of : M → List ℕ) (Effect 
 
   -- there are all rows, and what stands there was made
   pub record AreMade (calls : MadeCalls S) : Type 0 where
-    pub whole : length calls.rows.items ≡ 64
+    pub whole : length calls.rows.items ≡ 256
     pub each : (row : ℕ) (made : MadeCall S) → get_or calls.rows.items row None ≡ Some made → IsOfState made
 
   -- at this row stands what the call made of the state

@@ -135,13 +135,17 @@ fn is_dropped<O: Object>(
     };
     let place = *count as usize;
     let taken = here.found.counts.get(next.process).copied().unwrap_or(0);
-    let looks = task.hints.at(next.process, taken as usize).looks;
+    let looks = task.hints.looks_at(next.process, taken as usize);
     // Equal calls with the same reply look alike.
-    if task.hints.at(process, place).looks == looks {
+    if task.hints.looks_at(process, place) == looks {
         let first = Spot { process, place };
         if is_sooner(task.rows, here.limit, first, next.begun, end) {
             return true;
         }
+    }
+    // Of a reply without values it is mostly known that it fits.
+    if !ends_with_values(next) {
+        return false;
     }
     replies_otherwise(here.found, next.begun.call, end.reply, calls)
 }
@@ -162,22 +166,20 @@ fn next_place<O: Object>(
     ensures { (history : List (Event ObjectCall Reply)) (found : List (Configuration O.Meaning)) → IsAt history task.now.rows.now here.now
         → AreCovered (O.effect task.now.object.now) history found (found_in O.meaning here.now.found.now) (tried.now.begun.place + 1) result × (tried.now.begun.place < result) }
 {
-    let limit = here.limit;
-    let mut start = tried.begun.place + 1;
-    while start < limit {
-        let turn = first_turn(turns, start, limit);
-        if turn.place >= limit {
-            return task.rows.events;
+    let mut first = task.rows.events;
+    for turn in turns {
+        if turn.place <= tried.begun.place || turn.place >= first {
+            continue;
         }
         let Some(next) = next_of(task.rows, &here.found.counts, turn.process) else {
-            return start;
+            return tried.begun.place + 1;
         };
-        if !is_dropped(task, here, tried, &next, calls) {
-            return start;
+        if is_dropped(task, here, tried, &next, calls) {
+            continue;
         }
-        start = turn.place + 1;
+        first = turn.place;
     }
-    task.rows.events
+    first
 }
 
 /// What is tried next, of the calls that begin at a place or behind it.

@@ -36,9 +36,21 @@ fn is_behind_any<'a, O: Object>(
         process,
         place: *place as usize,
     };
-    for (process, count) in counts.iter().enumerate() {
-        let place = *count as usize;
-        if !are_alike(task.rows, Spot { process, place }, own) {
+    let Some(hint) = task.hints.at(process, own.place) else {
+        return Ok(false);
+    };
+    let mut from = 0;
+    for _ in 0..counts.len() {
+        let process = task.hints.first_call(counts, from, hint.call);
+        let Some(count) = counts.get(process) else {
+            return Ok(false);
+        };
+        from = process + 1;
+        let first = Spot {
+            process,
+            place: *count as usize,
+        };
+        if !are_alike(task.rows, first, own) {
             continue;
         }
         let Some(next) = next_of(task.rows, counts, process) else {

@@ -12,7 +12,6 @@ ghost use Rattle.wf_order.specs.Verdict.{HasLegal, IsBetween, IsHalved, IsLastFo
 
 use crate::front::{Front, farthest_of, frames_behind, go_on};
 use crate::hints::Hints;
-use crate::keys::Keys;
 use crate::rows::{Rows, processes_of, rows_of};
 use crate::search::{Answer, search};
 use crate::searched_object::Object;
@@ -22,6 +21,7 @@ use ob_interface::NoMemory;
 use std::alloc::Global;
 use std::hash::RandomState;
 use wf_history::{CallId, Event, History, SeenEvent};
+use wf_lookup::keys::Keys;
 
 /// What is found of a history.
 #[derive(Drop)]

@@ -1,4 +1,4 @@
-//! What is known of each ended call before the search, so that less is asked. It says where to ask, and the answers alone count.
+//! What is known of each call before the search, so that less is asked. It says where to ask, and the answers alone count.
 
 use crate::made_calls::{SPREAD, number_of};
 use crate::rows::{Begun, Ended, Rows};
@@ -7,13 +7,15 @@ use ob_interface::NoMemory;
 use std::alloc::{AllocError, Global};
 use wf_history::{SeenCall, SeenReply};
 
-/// Of an ended call.
+/// Of a call.
 #[derive(Clone, Copy)]
 pub(crate) struct Hint {
-    /// The place at which it begins, where the object tells it to be silent, and else one behind all events.
-    pub quiet: u32,
-    /// A number that equal calls with the same reply have in common.
-    pub looks: u32,
+    /// The place at which it begins, where it has ended and the object tells it to be silent, and else one behind all events.
+    quiet: u32,
+    /// A number that equal calls have in common.
+    pub call: u32,
+    /// A number that equal calls with the same reply have in common, and those that have not ended.
+    looks: u32,
 }
 
 /// The hints of each process, by the place of a call in the row. And up to which place a silent call may be left where the first end that is
@@ -44,61 +46,111 @@ impl Hints {
         Ok(Hints { rows: hints, until })
     }
 
-    /// Of a call, by its process and its place in the row; of one that has not ended that it is not silent.
-    pub(crate) fn at(&self, process: usize, place: usize) -> Hint {
-        let none = Hint {
-            quiet: u32::MAX,
-            looks: 0,
-        };
-        match self.rows.get(process) {
-            Some(row) => row.get(place).copied().unwrap_or(none),
-            None => none,
+    /// Of a call, by its process and its place in the row.
+    #[inline(always)]
+    pub(crate) fn at(&self, process: usize, place: usize) -> Option<Hint> {
+        self.rows.get(process)?.get(place).copied()
+    }
+
+    /// A number that equal calls with the same reply have in common, of a call by its process and its place in the row.
+    pub(crate) fn looks_at(&self, process: usize, place: usize) -> u32 {
+        match self.at(process, place) {
+            Some(hint) => hint.looks,
+            None => 0,
         }
+    }
+
+    /// The first process, of this one and those behind it, whose next call is silent and begins before the limit; where there is none, one
+    /// behind all of them.
+    pub(crate) fn first_quiet(&self, counts: &[u32], from: usize, limit: usize) -> usize {
+        for process in from..counts.len() {
+            if let Some(hint) = self.at(process, counts[process] as usize) {
+                if (hint.quiet as usize) < limit {
+                    return process;
+                }
+            }
+        }
+        counts.len()
+    }
+
+    /// The same of a next call with this number of calls.
+    pub(crate) fn first_call(&self, counts: &[u32], from: usize, call: u32) -> usize {
+        for process in from..counts.len() {
+            if let Some(hint) = self.at(process, counts[process] as usize) {
+                if hint.call == call {
+                    return process;
+                }
+            }
+        }
+        counts.len()
+    }
+
+    /// The same of a next call with this number of calls and replies.
+    pub(crate) fn first_like(&self, counts: &[u32], from: usize, looks: u32) -> usize {
+        for process in from..counts.len() {
+            if let Some(hint) = self.at(process, counts[process] as usize) {
+                if hint.looks == looks {
+                    return process;
+                }
+            }
+        }
+        counts.len()
     }
 }
 
-/// Of the ended calls of a process, and whether some that are silent do more than read.
+/// Of the calls of a process, and whether some that are silent do more than read.
 fn hint_row<O: Object>(
     alloc: Global,
     object: &O,
     begun: &[Begun],
     ended: &[Ended],
 ) -> Result<(Vec<Hint>, bool), AllocError> {
-    let mut row = Vec::with_capacity(alloc, ended.len())?;
+    let mut row = Vec::with_capacity(alloc, begun.len())?;
     let mut others = false;
-    for (call, end) in begun.iter().zip(ended.iter()) {
-        let silent = object.is_silent(call.call, end.reply);
-        let quiet = if silent {
-            u32::try_from(call.place).unwrap_or(u32::MAX)
-        } else {
-            u32::MAX
+    for (place, call) in begun.iter().enumerate() {
+        let number = number_of_call(call.call);
+        let mut hint = Hint {
+            quiet: u32::MAX,
+            call: spread(number),
+            looks: 0,
         };
-        let looks = looks_of(call.call, end.reply);
-        row.push(Hint { quiet, looks })?;
-        if silent && !object.is_reader(call.call) {
-            others = true;
+        if let Some(end) = ended.get(place) {
+            hint.looks = spread(
+                number
+                    .wrapping_mul(31)
+                    .wrapping_add(number_of_reply(end.reply)),
+            );
+            if object.is_silent(call.call, end.reply) {
+                hint.quiet = u32::try_from(call.place).unwrap_or(u32::MAX);
+                others |= !object.is_reader(call.call);
+            }
         }
+        row.push(hint)?;
     }
     Ok((row, others))
 }
 
-/// A number of a call and its reply: of its procedure, the first argument and the first value.
-fn looks_of(call: SeenCall, reply: SeenReply) -> u32 {
+/// A number of a call: of its procedure and the first argument.
+fn number_of_call(call: SeenCall) -> u64 {
     let argument = match call.args.lent().as_slice().first() {
         Some(scalar) => number_of(*scalar),
         None => 0,
     };
-    let value = match reply {
+    (call.proc as u64).wrapping_mul(31).wrapping_add(argument)
+}
+
+/// A number of a reply: of the first value.
+fn number_of_reply(reply: SeenReply) -> u64 {
+    match reply {
         SeenReply::Done(values) => match values.lent().as_slice().first() {
             Some(scalar) => number_of(*scalar),
             None => 1,
         },
         SeenReply::Trap(_) => 2,
-    };
-    let number = (call.proc as u64)
-        .wrapping_mul(31)
-        .wrapping_add(argument)
-        .wrapping_mul(31)
-        .wrapping_add(value);
+    }
+}
+
+/// The upper bits of a number that is spread over them.
+fn spread(number: u64) -> u32 {
     (number.wrapping_mul(SPREAD) >> 32) as u32
 }

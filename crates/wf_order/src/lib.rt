@@ -8,18 +8,15 @@
 
 mod attempt;
 mod behind;
-pub mod compared_replies;
 pub mod counted_processes;
 pub mod find;
 mod front;
 mod hints;
-pub mod keys;
 mod made_calls;
 mod next_call;
 pub mod opened;
 mod passing;
 pub mod rows;
-pub mod same_states;
 mod search;
 pub mod searched_object;
 mod seen;

@@ -1,13 +1,12 @@
 //! Calls that were made, so that few are made twice.
 
-ghost use Rattle.std.specs.Prelude.{◌≡◌, ◌<◌, Some, None, get_or, replicate, IfOk, IfSome, OnOk, IsTrue, option_copied, option_map};
+ghost use Rattle.std.specs.Prelude.{◌≡◌, ◌↔◌, ◌<◌, ℕ, Some, None, get_or, replicate, IfOk, IfSome, OnOk, IsTrue, option_copied, option_map};
 ghost use Rattle.ob_interface.specs.View.{reply_of};
 ghost use Rattle.wf_history.specs.View.{seen_call, seen_reply};
 ghost use Rattle.wf_order.specs.MadeCalls.{AreMade, HasMade, IsAsked, StandsAt, IsOtherwise};
-ghost use Rattle.wf_order.specs.Rules.{IsOutcome};
+ghost use Rattle.wf_order.specs.Rules.{IsOutcome, IsSameOutcome};
 ghost use Rattle.wf_order.specs.Search.{IsWorded};
 
-use crate::compared_replies::{is_same_call, is_same_reply};
 use crate::searched_object::{Object, Words};
 use crate::seen::Found;
 use crate::step::Task;
@@ -17,9 +16,10 @@ use ob_interface::scalar::Scalar;
 use smallvec::SmallVec;
 use std::alloc::{AllocError, Global};
 use wf_history::{SeenCall, SeenReply};
+use wf_lookup::compared_replies::{is_same_call, is_same_reply};
 
 /// How many calls are remembered at most.
-const ROWS: usize = 64;
+const ROWS: usize = 256;
 
 /// An odd number that spreads a number over its upper bits.
 pub(crate) const SPREAD: u64 = 0x9E37_79B9_7F4A_7C15;
@@ -68,7 +68,7 @@ fn number_of_words(words: &[u64]) -> u64 {
 /// The row of a call on the state with these words.
 #[inline(always)]
 fn row_of(words: &[u64], call: SeenCall) -> usize
-    ensures { result < 64 }
+    ensures { result < 256 }
 {
     let mut number = number_of_words(words)
         .wrapping_mul(31)
@@ -79,12 +79,12 @@ fn row_of(words: &[u64], call: SeenCall) -> usize
             number = number.wrapping_mul(31).wrapping_add(number_of(*scalar));
         }
     }
-    (number.wrapping_mul(SPREAD) >> 58) as usize % ROWS
+    (number.wrapping_mul(SPREAD) >> 56) as usize % ROWS
 }
 
 /// No call was made.
 pub(crate) fn no_calls<'a, S: Drop>(alloc: Global) -> Result<MadeCalls<'a, S>, AllocError>
-    ensures { IfOk result (λ calls. calls.rows.items ≡ replicate 64 None) }
+    ensures { IfOk result (λ calls. calls.rows.items ≡ replicate 256 None) }
 {
     let mut rows = Vec::with_capacity(alloc, ROWS)?;
     for _ in 0..ROWS {
@@ -137,6 +137,19 @@ fn found_at<'c, 'a, S>(
     Some(made)
 }
 
+/// A call on a configuration's state, if it was made and is remembered.
+#[inline(always)]
+fn remembered<'c, 'a, S>(
+    found: &Found<S>,
+    call: SeenCall,
+    calls: &'c MadeCalls<'a, S>,
+) -> Option<&'c MadeCall<'a, S>>
+    ensures { IfSome result (λ made. (row : ℕ) × StandsAt calls.now row found.now.words.items (seen_call call.entry) made.now) }
+{
+    let words = found.words.as_slice();
+    found_at(calls, row_of(words, call), words, call)
+}
+
 /// The row at which a call on a configuration's state stands, which is made where it wasn't; and whether it was.
 fn row_with<'a, O: Object>(
     task: &Task<'_, 'a, O>,
@@ -167,7 +180,7 @@ fn make_at<'a, O: Object>(
     row: usize,
     calls: &mut MadeCalls<'a, O::State>,
 ) -> Result<(), NoMemory>
-    requires within { row < 64 }
+    requires within { row < 256 }
     requires worded { IsWorded O.meaning O.words_of found.now }
     requires made { AreMade O.meaning O.words_of (O.effect task.now.object.now) calls.old }
     ensures made { OnOk result (AreMade O.meaning O.words_of (O.effect task.now.object.now) calls.new) }
@@ -214,8 +227,7 @@ pub(crate) fn replies_otherwise<S>(
 ) -> bool
     ensures { IsTrue result → IsOtherwise calls.now found.now.words.items (seen_call call.entry) (seen_reply reply.entry) }
 {
-    let words = found.words.as_slice();
-    let Some(made) = found_at(calls, row_of(words, call), words, call) else {
+    let Some(made) = remembered(found, call, calls) else {
         return false;
     };
     if is_same_reply(&made.reply, reply) {
@@ -256,4 +268,52 @@ pub(crate) fn outcome<'a, O: Object>(
         }
     }
     Ok(Some(task.object.copy(task.alloc, &made.state)?))
+}
+
+/// A call, and its reply, if one is known.
+#[derive(Clone, Copy)]
+pub(crate) struct Question<'a> {
+    pub call: SeenCall<'a>,
+    pub known: Option<SeenReply<'a>>,
+}
+
+/// Whether a reply is the one that is known, if one is.
+fn is_known(reply: &Reply, known: Option<SeenReply>) -> bool
+    ensures { IsTrue result ↔ IfSome (option_map seen_reply known.entry) (λ r. r ≡ reply_of reply.now) }
+{
+    match known {
+        Some(other) => is_same_reply(reply, other),
+        None => true,
+    }
+}
+
+/// Whether a call leads from a configuration's state where it leads from another one behind it, wherever it has the reply there that is known, if one is. Nothing
+/// where it isn't remembered what it makes of both.
+pub(crate) fn leads_alike<O: Object>(
+    task: &Task<O>,
+    here: &Found<O::State>,
+    behind: &Found<O::State>,
+    question: Question,
+    calls: &MadeCalls<O::State>,
+) -> Result<Option<bool>, NoMemory>
+    requires worded { IsWorded O.meaning O.words_of here.now }
+    requires behind { IsWorded O.meaning O.words_of behind.now }
+    requires made { AreMade O.meaning O.words_of (O.effect task.now.object.now) calls.now }
+    ensures { IfOk result (λ o. IfSome o (λ alike. IsTrue alike
+        → IsSameOutcome (O.effect task.now.object.now (seen_call question.entry.call)) (O.meaning here.now.state) (O.meaning behind.now.state) (option_map seen_reply question.entry.known))) }
+{
+    let Some(after) = remembered(behind, question.call, calls) else {
+        return Ok(None);
+    };
+    if !is_known(&after.reply, question.known) {
+        return Ok(Some(true));
+    }
+    let Some(other) = remembered(here, question.call, calls) else {
+        return Ok(None);
+    };
+    if !is_known(&other.reply, question.known) {
+        return Ok(Some(false));
+    }
+    let same = task.object.is_same(task.alloc, &other.state, &after.state)?;
+    Ok(Some(same))
 }

@@ -32,10 +32,13 @@ fn reader_at<'a, O: Object>(
         → IfOk result (λ o. IfSome o (IsReadingNext (O.effect task.now.object.now) history (found_in O.meaning here.now.found.now))) }
 {
     let counts = here.found.counts.as_slice();
-    for process in from..counts.len() {
-        if task.hints.at(process, counts[process] as usize).quiet as usize >= here.limit {
-            continue;
+    let mut from = from;
+    for _ in 0..counts.len() {
+        let process = task.hints.first_quiet(counts, from, here.limit);
+        if process >= counts.len() {
+            return Ok(None);
         }
+        from = process + 1;
         let Some((begun, end)) = ended_call(task, here, process) else {
             continue;
         };

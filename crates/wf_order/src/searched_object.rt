@@ -11,7 +11,7 @@ pub type Words = SmallVec<u64, 2>;
 
 /// An object that is used by one call at a time. What a call does is determined by the state and the call.
 pub trait Object {
-    ghost use Rattle.std.specs.Prelude.{◌≡◌, ℕ, List, IfOk, IsTrue, option_map};
+    ghost use Rattle.std.specs.Prelude.{◌≡◌, ◌↔◌, ℕ, List, IfOk, IsTrue, option_map};
     ghost use Rattle.ob_interface.specs.Call.{ObjectCall, Reply};
     ghost use Rattle.ob_interface.specs.Call.{Reply as AnyReply};
     ghost use Rattle.ob_interface.specs.View.{reply_of};
@@ -61,6 +61,15 @@ pub trait Object {
     /// A copy of a state.
     fn copy(&self, alloc: Global, state: &Self::State) -> Result<Self::State, NoMemory>
         ensures { IfOk result (λ same. meaning same ≡ meaning state.now) };
+
+    /// Whether two states are the same.
+    fn is_same(
+        &self,
+        alloc: Global,
+        state: &Self::State,
+        other: &Self::State,
+    ) -> Result<bool, NoMemory>
+        ensures { IfOk result (λ same. IsTrue same ↔ (meaning state.now ≡ meaning other.now)) };
 
     /// The state in words. No two states have the same ones.
     fn words(&self, alloc: Global, state: &Self::State) -> Result<Words, NoMemory>

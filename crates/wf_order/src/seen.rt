@@ -3,12 +3,12 @@
 ghost use Rattle.std.specs.Prelude.{◌≡◌, ◌<◌, ◌≤◌, ◌+◌, ◌++◌, ◌∷◌, [], map, length, Contains, IfOk, OnOk, IsTrue};
 ghost use Rattle.wf_order.specs.Search.{found_in, all_found, AreWorded, IsWorded};
 
-use crate::keys::Keys;
 use crate::searched_object::{Object, Words};
 use indexmap::IndexSet;
 use ob_interface::NoMemory;
 use smallvec::SmallVec;
 use std::alloc::Global;
+use wf_lookup::keys::Keys;
 
 /// How many calls of each process are taken.
 pub(crate) type Counts = SmallVec<u32, 16>;

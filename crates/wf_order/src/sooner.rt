@@ -9,11 +9,11 @@ ghost use Rattle.wf_order.specs.Search.{IsAt};
 ghost use Rattle.wf_order.specs.Steps.{IsLimit};
 ghost use Rattle.wf_order.specs.Turns.{IsNextOf};
 
-use crate::compared_replies::{are_same_replies, is_same_call};
 use crate::next_call::Next;
 use crate::rows::{Begun, Ended, Rows};
 use crate::searched_object::Object;
 use crate::step::{Here, Task};
+use wf_lookup::compared_replies::{are_same_replies, is_same_call};
 
 /// A call by its process and its place in the row.
 #[derive(Clone, Copy)]
@@ -87,13 +87,21 @@ pub(crate) fn has_sooner<O: Object>(task: &Task<O>, here: &Here<O::State>, next:
     }
     let counts = here.found.counts.as_slice();
     let taken = counts.get(next.process).copied().unwrap_or(0);
-    let looks = task.hints.at(next.process, taken as usize).looks;
-    for (process, count) in counts.iter().enumerate() {
-        let place = *count as usize;
-        if process == next.process || task.hints.at(process, place).looks != looks {
+    let looks = task.hints.looks_at(next.process, taken as usize);
+    let mut from = 0;
+    for _ in 0..counts.len() {
+        let process = task.hints.first_like(counts, from, looks);
+        let Some(count) = counts.get(process) else {
+            return false;
+        };
+        from = process + 1;
+        if process == next.process {
             continue;
         }
-        let first = Spot { process, place };
+        let first = Spot {
+            process,
+            place: *count as usize,
+        };
         if is_sooner(task.rows, here.limit, first, next.begun, end) {
             return true;
         }

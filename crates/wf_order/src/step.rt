@@ -11,7 +11,6 @@ ghost use Rattle.wf_order.specs.Rows.{call_at};
 ghost use Rattle.wf_order.specs.Steps.{one_more};
 ghost use Rattle.wf_order.specs.Turns.{IsNextOf};
 
-use crate::compared_replies::{is_same_call, is_same_reply};
 use crate::hints::Hints;
 use crate::made_calls::{MadeCalls, outcome};
 use crate::next_call::Next;
@@ -22,6 +21,7 @@ use ob_interface::{NoMemory, call};
 use smallvec::SmallVec;
 use std::alloc::Global;
 use wf_history::{CallId, Event, SeenCall, SeenReply};
+use wf_lookup::compared_replies::{is_same_call, is_same_reply};
 
 /// What is searched: events, with their rows, on an object, and which calls it tells to be silent.
 #[derive_where(Clone, Copy)]
@@ -177,10 +177,13 @@ pub(crate) fn any_silent_step<'a, O: Object>(
         return Ok(Silent::Never);
     }
     let counts = here.found.counts.as_slice();
-    for process in 0..counts.len() {
-        if task.hints.at(process, counts[process] as usize).quiet as usize >= here.limit {
-            continue;
+    let mut from = 0;
+    for _ in 0..counts.len() {
+        let process = task.hints.first_quiet(counts, from, here.limit);
+        if process >= counts.len() {
+            return Ok(Silent::Never);
         }
+        from = process + 1;
         let Some((begun, end)) = ended_call(task, here, process) else {
             continue;
         };

@@ -7,8 +7,7 @@ ghost use Rattle.wf_order.specs.MadeCalls.{AreMade};
 ghost use Rattle.wf_order.specs.Rules.{AreIdle, IsAlike};
 ghost use Rattle.wf_order.specs.Search.{found_in, IsAt, IsNextStep, IsWorded};
 
-use crate::made_calls::{MadeCalls, outcome};
-use crate::same_states::are_same;
+use crate::made_calls::{MadeCalls, Question, leads_alike, outcome};
 use crate::searched_object::Object;
 use crate::seen::Found;
 use crate::step::{Here, Task, one_more};
@@ -46,13 +45,20 @@ fn is_alike<'a, O: Object>(
             return Ok(true);
         }
     }
+    let question = Question {
+        call: begun.call,
+        known,
+    };
+    if let Some(alike) = leads_alike(task, here.found, behind, question, calls)? {
+        return Ok(alike);
+    }
     let Some(after) = outcome(task, behind, begun.call, known, calls)? else {
         return Ok(true);
     };
     let Some(other) = outcome(task, here.found, begun.call, known, calls)? else {
         return Ok(false);
     };
-    are_same(task.alloc, task.object, &other, &after)
+    task.object.is_same(task.alloc, &other, &after)
 }
 
 /// The same of the next calls of all other processes.

@@ -18,8 +18,8 @@ use std::rc::Rc;
 use thiserror::Error;
 use wf_counts::Counts;
 use wf_history::KeptCall;
+use wf_lookup::keys::Keys;
 use wf_order::Object;
-use wf_order::keys::Keys;
 
 /// For how many configurations there is room from the beginning at most.
 const FIRST_ROOM: usize = 1 << 16;

@@ -3,7 +3,7 @@
 use indexmap::IndexSet;
 use std::rc::Rc;
 use wf_counts::Counts;
-use wf_order::keys::Keys;
+use wf_lookup::keys::Keys;
 use wf_order::searched_object::Words;
 
 /// A state, also in words.

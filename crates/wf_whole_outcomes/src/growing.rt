@@ -11,7 +11,7 @@ use crate::nodes::{Layer, Lists, Node, node_on};
 use ob_interface::NoMemory;
 use std::alloc::Global;
 use std::hash::RandomState;
-use wf_order::keys::Keys;
+use wf_lookup::keys::Keys;
 
 /// Over which edges a search goes, of how many processes, and with which keys of its tables.
 #[derive(Clone, Copy)]

@@ -12,7 +12,7 @@ use ob_interface::NoMemory;
 use smallvec::SmallVec;
 use std::alloc::Global;
 use thiserror::Error;
-use wf_order::keys::Keys;
+use wf_lookup::keys::Keys;
 
 /// Why a search gives up.
 #[derive(Clone, Copy, Debug, Error)]

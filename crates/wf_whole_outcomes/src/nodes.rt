@@ -9,7 +9,7 @@ use indexmap::IndexSet;
 use ob_interface::NoMemory;
 use smallvec::SmallVec;
 use std::alloc::{AllocError, Global};
-use wf_order::keys::Keys;
+use wf_lookup::keys::Keys;
 
 /// A list, by its number, and a reply behind it.
 #[derive(Clone, Copy, PartialEq, Eq, Hash)]

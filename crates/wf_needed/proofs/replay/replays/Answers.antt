@@ -8,7 +8,7 @@ use Rattle.wf_needed.specs.Listed.{Replays}
 pub returns-then-branch-clause-replays : goal.returns-then-branch-clause-replays
 returns-then-branch-clause-replays g c = λ t. (
   c.requires.0,
-  subst (λ (state : g.O.Object.Meaning). Replays (g.O.Object.effect c.args.object.now) state c.args.all.now c.requires.0) (c.in_ok-are_same.ensures.0 c.if-branch.true) c.requires.1,
+  subst (λ (state : g.O.Object.Meaning). Replays (g.O.Object.effect c.args.object.now) state c.args.all.now c.requires.0) (c.in_ok-is_same.ensures.0 c.if-branch.true) c.requires.1,
 )
 
 pub returns-in_default-clause-replays : goal.returns-in_default-clause-replays
@@ -34,7 +34,7 @@ pub returns-then-branch-2-clause-replays : goal.returns-then-branch-2-clause-rep
 returns-then-branch-2-clause-replays g c = λ t.
     alike_same (g.O.Object.effect c.args.object.now) (λ call. g.met.O.Object.determined c.args.object.now call) (g.O.Object.meaning c.args.without.now) c.args.all.now c.in-Some.rest.now
     c.loop-listed.listed-index (g.O.Object.meaning c.loop-listed.here.without) c.loop-listed.invariant.0 (g.O.Object.meaning c.loop-listed.here.with) c.loop-listed.invariant.1
-    (c.in_ok-are_same-2.ensures.0 c.if-branch-2.true) c.loop-listed.invariant.2
+    (c.in_ok-is_same-2.ensures.0 c.if-branch-2.true) c.loop-listed.invariant.2
 
 pub returns-in_default-3-clause-not : goal.returns-in_default-3-clause-not
 returns-in_default-3-clause-not g c = λ f.

@@ -1,5 +1,5 @@
 -- The equal call's step.
-use Rattle.std.proofs.Common.{sym, subst, ℕ, List, length, get_or}
+use Rattle.std.proofs.Common.{sym, subst, ℕ, length, get_or}
 use Rattle.std.proofs.lemmas.Option.{MatchOption-at_some}
 use Rattle.wf_order.specs.Rows.{call_at}
 use Rattle.wf_order.specs.Rules.{AreAlike}
@@ -18,7 +18,9 @@ returns-in-Some-2-clause-behind g c = λ history at.
     let other = c.in-Some-next_of.next.process in
     let own = taken_is c.as_slice-counts.result.now found.counts.items process c.in-Some.place.now c.in-Some.ensures.lookup.0 c.in-Some.ensures.lookup.1 c.as_slice-counts.ensures in
     let found_alike = c.are_alike.ensures history (length here.counts) at.0 c.if-not-are_alike.false in
-    let first = subst (λ (xs : List ℕ). AreAlike history (call_at c.loop-process.process (get_or xs c.loop-process.process 0)) (call_at process c.in-Some.place.now)) c.as_slice-counts.ensures found_alike in
+    let q = c.first_call-process.result in
+    let count = taken_is c.as_slice-counts.result.now found.counts.items q c.in-Some-get.count.now c.in-Some-get.ensures.lookup.0 c.in-Some-get.ensures.lookup.1 c.as_slice-counts.ensures in
+    let first = subst (λ (k : ℕ). AreAlike history (call_at q k) (call_at process c.in-Some.place.now)) count found_alike in
     let named = subst (λ (p : ℕ). AreAlike history (call_at p (get_or here.counts p 0)) (call_at process c.in-Some.place.now)) (sym c.in-Some-next_of.ensures.0) first in
     let alike = subst (λ (k : ℕ). AreAlike history (call_at other (get_or here.counts other 0)) (call_at process k)) own named in
     let after = g.O.Object.meaning c.in-Some-2._state in

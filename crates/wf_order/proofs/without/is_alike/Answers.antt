@@ -1,6 +1,7 @@
 -- By the rows, and by the outcomes.
-use Rattle.std.proofs.Common.{◌≡◌, refl, ap, sym, subst, ◌∙◌, false, not, Option, option_map, None, Some}
+use Rattle.std.proofs.Common.{◌≡◌, refl, ap, sym, subst, ◌∙◌, Bool, false, not, Option, option_map, None, Some}
 use Rattle.std.specs.Option.{is_some}
+use Rattle.std.specs.Prelude.{IfSome, IsTrue}
 use Rattle.std.proofs.lemmas.Result.{IfOk-weaker}
 use Rattle.wf_history.specs.declared.seen_event.SeenReply.{SeenReply}
 use Rattle.wf_history.specs.View.{seen_call, seen_reply}
@@ -45,8 +46,8 @@ returns-then-is_reader-clause-alike g c = λ history by at t.
     (found_in g.O.Object.meaning found) at.0 c.args.here.now.limit at.1 by (g.O.Object.meaning c.args.behind.now.state) process c.in-Some.taken.now is
     c.in-Some-begun_at.begun (sym c.begun_at.ensures.item ∙ c.in-Some-begun_at.is) none (c.is_reader.ensures c.if-is_reader.true)
 
-pub returns-in_default-2-clause-alike : goal.returns-in_default-2-clause-alike
-returns-in_default-2-clause-alike g c = λ history by at t.
+pub returns-in_default-3-clause-alike : goal.returns-in_default-3-clause-alike
+returns-in_default-3-clause-alike g c = λ history by at t.
     let process = c.args.process in
     let found = c.args.here.now.found.now in
     let here = found_in g.O.Object.meaning found in
@@ -56,7 +57,7 @@ returns-in_default-2-clause-alike g c = λ history by at t.
     let behind = g.O.Object.meaning c.args.behind.now.state in
     let known = option_map seen_reply c.reply_at-known.result in
     let is = taken_is c.deref.result.now found.counts.items process c.in-Some.taken.now c.in-Some.ensures.lookup.0 c.in-Some.ensures.lookup.1 c.deref.ensures in
-    let outcome = subst (λ (o : Option g.row.O-State.Denot). IsOutcome effect behind known (option_map g.O.Object.meaning o)) c.in_default-2.is c.in_ok-after.ensures.outcome in
+    let outcome = subst (λ (o : Option g.row.O-State.Denot). IsOutcome effect behind known (option_map g.O.Object.meaning o)) c.in_default-3.is c.in_ok-after.ensures.outcome in
     let same = same_none effect (g.met.O.Object.determined c.args.task.now.object.now (seen_call begun.call)) here.state behind known outcome in
     alike_outcome effects (λ call. g.met.O.Object.determined c.args.task.now.object.now call) history c.args.task.now.rows.now
     here at.0 c.args.here.now.limit at.1 by behind process c.in-Some.taken.now is begun (sym c.begun_at.ensures.item ∙ c.in-Some-begun_at.is)
@@ -73,11 +74,27 @@ returns-clause-alike g c = λ history by at.
     let behind = g.O.Object.meaning c.args.behind.now.state in
     let known = option_map seen_reply c.reply_at-known.result in
     let is = taken_is c.deref.result.now found.counts.items process c.in-Some.taken.now c.in-Some.ensures.lookup.0 c.in-Some.ensures.lookup.1 c.deref.ensures in
-    let there = subst (λ (o : Option g.row.O-State.Denot). IsOutcome effect behind known (option_map g.O.Object.meaning o)) c.in-Some-2.is c.in_ok-after.ensures.outcome in
-    let other = subst (λ (o : Option g.row.O-State.Denot). IsOutcome effect here.state known (option_map g.O.Object.meaning o)) c.in-Some-3.is c.in_ok-other.ensures.outcome in
-    IfOk-weaker c.are_same.result _ _
+    let there = subst (λ (o : Option g.row.O-State.Denot). IsOutcome effect behind known (option_map g.O.Object.meaning o)) c.in-Some-3.is c.in_ok-after.ensures.outcome in
+    let other = subst (λ (o : Option g.row.O-State.Denot). IsOutcome effect here.state known (option_map g.O.Object.meaning o)) c.in-Some-4.is c.in_ok-other.ensures.outcome in
+    IfOk-weaker c.is_same.result _ _
     (λ same h t. alike_outcome effects (λ call. g.met.O.Object.determined c.args.task.now.object.now call) history c.args.task.now.rows.now
     here at.0 c.args.here.now.limit at.1 by behind process c.in-Some.taken.now is begun (sym c.begun_at.ensures.item ∙ c.in-Some-begun_at.is)
     (subst (λ (o : Option SeenReply). IsSameOutcome effect here.state behind (option_map seen_reply o)) c.reply_at-known.ensures
-    (same_some effect (g.met.O.Object.determined c.args.task.now.object.now (seen_call begun.call)) here.state behind known (g.O.Object.meaning c.in-Some-2.after) (g.O.Object.meaning c.in-Some-3.other) there other (h.0 t))))
-    c.are_same.ensures
+    (same_some effect (g.met.O.Object.determined c.args.task.now.object.now (seen_call begun.call)) here.state behind known (g.O.Object.meaning c.in-Some-3.after) (g.O.Object.meaning c.in-Some-4.other) there other (h.0 t))))
+    c.is_same.ensures
+
+pub returns-in-Some-2-clause-alike : goal.returns-in-Some-2-clause-alike
+returns-in-Some-2-clause-alike g c = λ history by at t.
+    let process = c.args.process in
+    let found = c.args.here.now.found.now in
+    let here = found_in g.O.Object.meaning found in
+    let begun = c.in-Some-begun_at.begun in
+    let effects = g.O.Object.effect c.args.task.now.object.now in
+    let effect = effects (seen_call begun.call) in
+    let behind = g.O.Object.meaning c.args.behind.now.state in
+    let known = option_map seen_reply c.reply_at-known.result in
+    let is = taken_is c.deref.result.now found.counts.items process c.in-Some.taken.now c.in-Some.ensures.lookup.0 c.in-Some.ensures.lookup.1 c.deref.ensures in
+    let same = subst (λ (o : Option Bool). IfSome o (λ alike. IsTrue alike → IsSameOutcome effect here.state behind known)) c.in-Some-2.is c.in_ok-alike.ensures in
+    alike_outcome effects (λ call. g.met.O.Object.determined c.args.task.now.object.now call) history c.args.task.now.rows.now
+    here at.0 c.args.here.now.limit at.1 by behind process c.in-Some.taken.now is begun (sym c.begun_at.ensures.item ∙ c.in-Some-begun_at.is)
+    (subst (λ (o : Option SeenReply). IsSameOutcome effect here.state behind (option_map seen_reply o)) c.reply_at-known.ensures (same t))

@@ -2,7 +2,7 @@
 use Rattle.std.proofs.Common.{◌≡◌, ◌==◌, ◌∙◌, [], List, sym, true, length}
 use Rattle.std.proofs.lemmas.Bool.{eqb-true}
 use Rattle.std.proofs.lemmas.List.{nil_from_length}
-use Rattle.wf_order.proofs.compared_replies.are_same.Goals as goal
+use Rattle.wf_lookup.proofs.compared_replies.are_same.Goals as goal
 
 nothing : {A : Type 0} (xs : List A) → (length xs == 0) ≡ true → xs ≡ []
 nothing xs e = nil_from_length xs (eqb-true (length xs) 0 e)

@@ -3,7 +3,7 @@ use Rattle.std.proofs.Common.{◌≡◌, ap, sym, ◌∙◌}
 use Rattle.ob_interface.specs.Call.{Answers}
 use Rattle.ob_interface.specs.View.{reply_of}
 use Rattle.wf_history.specs.View.{seen_reply}
-use Rattle.wf_order.proofs.compared_replies.is_same_reply.Goals as goal
+use Rattle.wf_lookup.proofs.compared_replies.is_same_reply.Goals as goal
 
 pub returns-in-Done-Done : goal.returns-in-Done-Done
 returns-in-Done-Done c =

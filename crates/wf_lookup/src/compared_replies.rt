@@ -54,7 +54,7 @@ pub fn is_same_reply(reply: &Reply, other: SeenReply) -> bool
 
 /// Whether two replies of a history are the same.
 #[inline(always)]
-pub(crate) fn are_same_replies(reply: SeenReply, other: SeenReply) -> bool
+pub fn are_same_replies(reply: SeenReply, other: SeenReply) -> bool
     ensures { IsTrue result → seen_reply reply.entry ≡ seen_reply other.entry }
 {
     match (reply, other) {
@@ -66,7 +66,7 @@ pub(crate) fn are_same_replies(reply: SeenReply, other: SeenReply) -> bool
 
 /// Whether two calls of a history are the same.
 #[inline(always)]
-pub(crate) fn is_same_call(call: SeenCall, other: SeenCall) -> bool
+pub fn is_same_call(call: SeenCall, other: SeenCall) -> bool
     ensures { IsTrue result → seen_call call.entry ≡ seen_call other.entry }
 {
     call.proc == other.proc && are_same(call.args, other.args)

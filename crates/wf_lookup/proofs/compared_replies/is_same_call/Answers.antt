@@ -1,6 +1,6 @@
 -- Lists of arguments are the same where they are equal.
 use Rattle.std.proofs.Common.{◌≡◌}
-use Rattle.wf_order.proofs.compared_replies.is_same_call.Goals as goal
+use Rattle.wf_lookup.proofs.compared_replies.is_same_call.Goals as goal
 
 pub returns-then-call-other : goal.returns-then-call-other
 returns-then-call-other c = λ t.
