@@ -15,6 +15,14 @@ const BEFORE_STATEMENTS: [&str; 9] = [
     "CONST", "TYPE", "VAR", "BEGIN", "THEN", "ELSE", "DO", "REPEAT", "END",
 ];
 
+/// Words of other languages that stand before a name in its declaration, or before its type.
+const MODES: [&str; 2] = ["MUT", "IN"];
+
+/// Whether a word stands in other languages before a name in its declaration, or before its type.
+pub fn is_mode(word: &[u8]) -> bool {
+    is_one(&MODES, word)
+}
+
 /// Whether the tables have a hint on this word: it is one of another language, or a keyword but for small letters.
 pub fn is_foreign(word: &[u8]) -> bool {
     word_hint(&View {

@@ -1,5 +1,6 @@
 //! Which token may be missing before a place.
 
+use ob_clues::foreign::is_mode;
 use ob_clues::further::is_closed_behind;
 use ob_clues::procedure_names::{is_assigned, is_procedure, next_ended};
 use ob_evidence::small_keywords::next_behind;
@@ -82,6 +83,10 @@ fn missing_mark(
     could: &[Kind],
 ) -> Result<Option<Fact>, AllocError> {
     let (kind, fact) = awaited(could);
+    // Nothing is missing behind a word that is too much.
+    if is_mode(site.word_of(site.last())) {
+        return Ok(None);
+    }
     if begins_late_section(here, could) {
         Ok(Some(Fact::NoSemicolon))
     } else if goes_on_behind(alloc, site, kind, here.kind)? {

@@ -106,6 +106,8 @@ pub const SEMICOLON_THERE: Fix = fix!(b";" => "with ; in its place");
 // a word of another language does
 pub const AND_WORD: Fix = fix!(b"&" => "with & for AND");
 
+pub const AND_THEN: Fix = fix!(b"&" => "with & for AND THEN");
+
 pub const NOT_WORD: Fix = fix!(b"~" => "with ~ for NOT");
 
 pub const UNEQUAL_WORD: Fix = fix!(b"#" => "with # for XOR");
@@ -146,6 +148,8 @@ pub const END_WORD: Fix = fix!(b"END" => "with END written there");
 
 pub const RECORD_WORD: Fix = fix!(b"RECORD" => "with RECORD for the word before it");
 
+pub const EQUAL_TYPED: Fix = fix!(b"=" => "with = for this type and the := behind it");
+
 pub const EQUAL_RECORD: Fix = fix!(b"= RECORD" => "with = RECORD in its place");
 
 // something is too much
@@ -160,6 +164,12 @@ pub const WORD_BEFORE: Fix = fix!(b"" => "with the word before it left out");
 pub const EXPORT: Fix = fix!(b"" => "with the * left out");
 
 pub const END_LEFT_OUT: Fix = fix!(b"" => "with the END before it left out");
+
+pub const COMMA_LEFT_OUT: Fix = fix!(b"" => "with the , before it left out");
+
+pub const SEMICOLON_LEFT_OUT: Fix = fix!(b"" => "with the ; before it left out");
+
+pub const HEADING_PAREN: Fix = fix!(b")" => "with a ) before the ; of the heading");
 
 pub const POINTER: Fix = fix!(b"" => "with POINTER TO left out");
 

@@ -92,18 +92,11 @@ fn misplaced_before(tokens: &[Token], own: usize) -> Option<Misplaced> {
             || kind == Kind::Begin
             || kind == Kind::Module
         {
-            return sections_from(first, rank(kind) == own);
+            let joins = rank(kind) == own;
+            return first.map(|first| Misplaced { first, joins });
         }
     }
     None
-}
-
-/// The sections that begin with this token, if there are any.
-fn sections_from(first: Option<Token>, joins: bool) -> Option<Misplaced> {
-    match first {
-        Some(first) => Some(Misplaced { first, joins }),
-        None => None,
-    }
 }
 
 /// How many an END or a `)` closes by this token.
@@ -114,11 +107,17 @@ pub fn opened(kind: Kind) -> usize {
     }
 }
 
-/// The token before which a section ends, among those behind its first.
+/// The token before which a section ends, among those behind its first: another section, a body, or behind a `;` a name that begins no
+/// declaration.
 fn section_end(tokens: &[Token]) -> Option<Token> {
     let mut inside: usize = 0;
+    let mut last = Kind::Module;
+    let mut named: Option<Token> = None;
     for token in tokens {
         let kind = token.kind;
+        if named.is_some() && !follows_declared(kind) {
+            return named;
+        }
         if kind == Kind::Record {
             inside = inside.saturating_add(1);
         } else if kind == Kind::End && inside > 0 {
@@ -126,6 +125,17 @@ fn section_end(tokens: &[Token]) -> Option<Token> {
         } else if rank(kind) > 0 || matches!(kind, Kind::Begin | Kind::End) {
             return Some(*token);
         }
+        let is_first = inside == 0 && last == Kind::Semicolon && kind == Kind::Ident;
+        named = is_first.then_some(*token);
+        last = kind;
     }
     None
+}
+
+/// Whether this may stand behind a name that is declared.
+fn follows_declared(kind: Kind) -> bool {
+    matches!(
+        kind,
+        Kind::Equal | Kind::Colon | Kind::Comma | Kind::Times | Kind::Assign
+    )
 }

@@ -568,7 +568,8 @@ pub fn initial_mending(alloc: Global, site: &Site<'_, '_>) -> Result<Option<Mend
     let is_value = matches!(kind_or_name(site.here()), Kind::Assign | Kind::Equal)
         && begins_value(site)
         && is_kind(site.last(), Kind::Ident)
-        && !declares(site.text, site.tokens, site.word_of(site.last()))
+        && (is_kind(site.second(), Kind::Var)
+            || !declares(site.text, site.tokens, site.word_of(site.last())))
         && matches!(
             kind_or_name(site.second()),
             Kind::Var | Kind::Semicolon | Kind::Comma
@@ -609,8 +610,10 @@ pub fn listed_mending(alloc: Global, site: &Site<'_, '_>) -> Result<Option<Mendi
         return Ok(None);
     };
     let name = site.second();
+    let is_type = is_kind(site.last(), Kind::Equal)
+        || is_kind(site.last(), Kind::Colon) && !is_in_parens(site.before);
     if open.kind != Kind::LeftParen
-        || !is_kind(site.last(), Kind::Equal)
+        || !is_type
         || is_in_body(site.before)
         || !is_kind(name, Kind::Ident)
     {

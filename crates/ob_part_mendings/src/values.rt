@@ -7,9 +7,10 @@ use ob_explain_names::declarations::first_of as first_token;
 use ob_explain_sentences::first_word::{is_same, is_same_in_any_case};
 use ob_explain_sentences::place::halves;
 use ob_explain_tokens::operand_tokens::is_relation;
+use ob_explain_tokens::parens::is_in_parens;
 use ob_mendings::fix::{
-    BEGIN_COLON, FALSE, Fix, INITIAL, LENGTH, RESULT, TRUE, TYPE, VALUE, WORD_BEFORE, fixed,
-    left_out, worded,
+    BEGIN_COLON, EQUAL_TYPED, FALSE, Fix, INITIAL, LENGTH, RESULT, TRUE, TYPE, VALUE, WORD_BEFORE,
+    fixed, left_out, worded,
 };
 use ob_mendings::mending::Mending;
 use ob_mendings::part::is_in_body;
@@ -81,19 +82,36 @@ fn is_name_there(site: &Site<'_, '_>) -> bool {
 /// The mending that leaves out the type of a result, which stands behind the parameters of a heading, or the value of a variable, which stands
 /// behind its type.
 pub fn result_mending(alloc: Global, site: &Site<'_, '_>) -> Result<Option<Mending>, AllocError> {
-    match (first_of(site.behind, &[Kind::Semicolon]), too_much(site)) {
+    let ends: &[Kind] = if is_in_parens(site.before) {
+        &[Kind::Semicolon, Kind::RightParen]
+    } else {
+        &[Kind::Semicolon]
+    };
+    match (first_of(site.behind, ends), too_much(site)) {
         (Some(end), Some(fix)) if !is_in_body(site.before) => {
-            let (_, from) = halves(site.text, site.place);
-            let length = end.start.saturating_sub(site.place);
-            let (whole, _) = halves(from, length);
-            if whole.contains(&b'\n') {
-                begun(alloc, site)
-            } else {
+            let whole = between(site.text, site.place, end.start);
+            if !whole.contains(&b'\n') {
                 left_out(alloc, site.place, whole, fix)
+            } else if let Some(end) = result_end(site) {
+                left_out(alloc, site.place, between(site.text, site.place, end), fix)
+            } else {
+                begun(alloc, site)
             }
         }
         _ => Ok(None),
     }
+}
+
+/// Where the type of a result ends at the place that stands behind a `)` without a `:`: `-> T`, `RETURN T`, or `T` alone.
+fn result_end(site: &Site<'_, '_>) -> Option<usize> {
+    let next = site.next()?;
+    let end = match kind_or_name(site.here()) {
+        Kind::Minus => next_behind(site.tokens, next.start)?.end,
+        Kind::Ident if is_same_in_any_case(site.word(), b"RETURN") => next.end,
+        Kind::Ident => site.here()?.end,
+        _ => return None,
+    };
+    Some(end)
 }
 
 /// The mending of a `:` behind a heading, where a body begins without a BEGIN.
@@ -109,6 +127,7 @@ fn too_much(site: &Site<'_, '_>) -> Option<Fix> {
     match (kind_or_name(site.here()), kind_or_name(site.last())) {
         (Kind::Colon, Kind::RightParen) => Some(RESULT),
         (Kind::Minus, Kind::RightParen) if is_kind(site.next(), Kind::Greater) => Some(RESULT),
+        (Kind::Ident, Kind::RightParen) if is_result(site) => Some(RESULT),
         (Kind::Colon, Kind::Ident | Kind::Times) if is_kind(heading_of(site), Kind::Procedure) => {
             Some(RESULT)
         }
@@ -117,6 +136,17 @@ fn too_much(site: &Site<'_, '_>) -> Option<Fix> {
         }
         _ => None,
     }
+}
+
+/// Whether a type of a result, or RETURN before one, stands at the place behind the parameters of a heading.
+fn is_result(site: &Site<'_, '_>) -> bool {
+    let section = first_of(
+        site.before,
+        &[Kind::Procedure, Kind::Begin, Kind::Const, Kind::Type],
+    );
+    is_kind(section, Kind::Procedure)
+        && !is_same_in_any_case(site.word(), b"IS")
+        && !is_same_in_any_case(site.word(), b"AS")
 }
 
 /// The token before the name behind which the place stands, or behind whose `*`.
@@ -128,18 +158,29 @@ fn heading_of(site: &Site<'_, '_>) -> Option<Token> {
     }
 }
 
-/// The mending of the type of a constant, as in `CONST n: INTEGER = 5`: without it.
+/// The mending of the type of a constant, as in `CONST n: INTEGER = 5` and `CONST n: constant INTEGER := 5`: without it.
 pub fn typed_mending(alloc: Global, site: &Site<'_, '_>) -> Result<Option<Mending>, AllocError> {
-    let value = first_token(rest_of(site.behind));
-    match (site.here(), site.next()) {
-        (Some(colon), Some(named))
-            if colon.kind == Kind::Colon
-                && named.kind == Kind::Ident
-                && is_kind(value, Kind::Equal)
-                && is_constant(site) => {
+    let third = first_token(rest_of(site.behind));
+    let (named, value) = if is_kind(third, Kind::Ident) {
+        (third, first_token(rest_of(rest_of(site.behind))))
+    } else {
+        (site.next(), third)
+    };
+    let (Some(colon), Some(named), Some(value)) = (site.here(), named, value) else {
+        return Ok(None);
+    };
+    if colon.kind != Kind::Colon || named.kind != Kind::Ident || !is_constant(site) {
+        return Ok(None);
+    }
+    match value.kind {
+        Kind::Equal => {
             let (_, from) = halves(site.text, colon.start);
             let length = named.end.saturating_sub(colon.start);
             left_out(alloc, colon.start, halves(from, length).0, RESULT)
+        }
+        Kind::Assign if !between(site.text, colon.start, value.end).contains(&b'\n') => {
+            let taken = value.end.saturating_sub(colon.start);
+            fixed(alloc, colon.start, taken, EQUAL_TYPED)
         }
         _ => Ok(None),
     }
@@ -392,30 +433,104 @@ fn bracket_around(site: &Site<'_, '_>, open: Token) -> Option<Token> {
     }
 }
 
-/// The mending of a length that is written as the first and the last index, as `[0..9]`: their number.
+/// The mending of a length that is written as the first and the last index, as `[0..9]` or `(1 .. n)`: their number.
 pub fn range_mending(alloc: Global, site: &Site<'_, '_>) -> Result<Option<Mending>, AllocError> {
+    let Some(leader) = first_of(site.before, LEADERS) else {
+        return Ok(None);
+    };
+    let (Some(open), Kind::Array) = (next_behind(site.tokens, leader.start), leader.kind) else {
+        return Ok(None);
+    };
+    let mut put = Vec::new(alloc);
+    let end = if let Some(range) = range_from(site, open) {
+        put_indices(&mut put, site, range)?;
+        Some(range.end)
+    } else if let Some(close) = bracket_around(site, open) {
+        put.extend_from_slice(between(site.text, open.end, close.start))?;
+        Some(close.end)
+    } else {
+        gap_length(&mut put, site)?
+    };
+    match end {
+        Some(end) if !put.is_empty() => {
+            // Behind `ARRAY[` a blank is lacking.
+            if leader.end < open.start {
+                let taken = end.saturating_sub(open.start);
+                return worded(alloc, open.start, taken, &put, " in its place");
+            }
+            let mut whole = Vec::from_slice(alloc, b"ARRAY ")?;
+            whole.extend_from_slice(&put)?;
+            let taken = end.saturating_sub(leader.start);
+            worded(alloc, leader.start, taken, &whole, " in its place")
+        }
+        _ => Ok(None),
+    }
+}
+
+/// Puts how many indices `0..9` has without brackets around it, and tells where it ends.
+fn gap_length(put: &mut Vec<u8>, site: &Site<'_, '_>) -> Result<Option<usize>, AllocError> {
     let Some(gap) = gap_at(site) else {
         return Ok(None);
     };
-    let begin = next_behind(site.tokens, gap.leader.start);
-    if let Some(open) = begin
-        && let Some(close) = bracket_around(site, open)
-        && gap.leader.kind == Kind::Array
-    {
-        let length = between(site.text, open.end, close.start);
-        let taken = close.end.saturating_sub(open.start);
-        return worded(alloc, open.start, taken, length, " in its place");
-    }
-    let (Some(begin), Some(count)) = (begin, indices_behind(site, gap.leader, gap.end.start)) else {
+    let Some(count) = indices_behind(site, gap.leader, gap.end.start) else {
         return Ok(None);
     };
-    if gap.leader.kind != Kind::Array {
-        return Ok(None);
-    }
     let mut buffer = Buffer::new();
-    let taken = gap.end.start.saturating_sub(begin.start);
-    let length = buffer.format(count).as_bytes();
-    worded(alloc, begin.start, taken, length, " in its place")
+    put.extend_from_slice(buffer.format(count).as_bytes())?;
+    Ok(Some(gap.end.start))
+}
+
+/// The first and the last index of an array, around a `..`, and where what stands around them ends.
+#[derive(Clone, Copy)]
+struct Range {
+    first: usize,
+    last: Token,
+    end: usize,
+}
+
+/// The range `1 .. n` or `0 .. 9`, with the parentheses or the brackets that begin here.
+fn range_from(site: &Site<'_, '_>, open: Token) -> Option<Range> {
+    let first = next_behind(site.tokens, open.start)?;
+    let dot = next_behind(site.tokens, first.start)?;
+    let other = next_behind(site.tokens, dot.start)?;
+    let last = next_behind(site.tokens, other.start)?;
+    let close = next_behind(site.tokens, last.start)?;
+    let is_closed = matches!(
+        (open.kind, close.kind),
+        (Kind::LeftParen, Kind::RightParen) | (Kind::LeftBracket, Kind::RightBracket)
+    );
+    let is_range = first.kind == Kind::Number
+        && dot.kind == Kind::Dot
+        && other.kind == Kind::Dot
+        && matches!(last.kind, Kind::Ident | Kind::Number);
+    if is_closed && is_range {
+        Some(Range {
+            first: number_at(site, first),
+            last,
+            end: close.end,
+        })
+    } else {
+        None
+    }
+}
+
+/// How many indices a range has, as it is put for the length; nothing where no number tells it.
+fn put_indices(put: &mut Vec<u8>, site: &Site<'_, '_>, range: Range) -> Result<(), AllocError> {
+    let mut buffer = Buffer::new();
+    match (range.last.kind, range.first) {
+        (Kind::Number, first) => {
+            let count = number_at(site, range.last)
+                .saturating_add(1)
+                .saturating_sub(first);
+            put.extend_from_slice(buffer.format(count).as_bytes())
+        }
+        (_, 0) => {
+            put.extend_from_slice(site.word_of(Some(range.last)))?;
+            put.extend_from_slice(b" + 1")
+        }
+        (_, 1) => put.extend_from_slice(site.word_of(Some(range.last))),
+        _ => Ok(()),
+    }
 }
 
 /// The number that a token is.

@@ -8,11 +8,11 @@ use ob_explain_sentences::place::halves;
 use ob_explain_tokens::open::is_in_record;
 use ob_explain_words::declaring::declares;
 use ob_mendings::fix::{
-    BEGIN_BEFORE, BEGIN_NAME, BRACKET_BEFORE, COLON, COLON_BEFORE, COMMA_BEFORE, COMMA_THERE,
-    CONST_BEFORE, DO, DO_BEFORE, END_LEFT_OUT, EQUAL, EQUAL_BEFORE, EXPORT, Fix, INDEX, LEFT_PAREN,
-    NOTHING, OF_ARRAY, OF_BEFORE, OF_TYPE, PAREN_BEFORE, SEMICOLON, SEMICOLON_THERE, THEN,
-    THEN_BEFORE, TYPE_BEFORE, TYPE_NAME, TYPE_SECTION, UNTIL_WORD, VAR_BEFORE, VAR_NAME, bytes_of,
-    fixed, put, told_at_end,
+    BEGIN_BEFORE, BEGIN_NAME, BRACKET_BEFORE, COLON, COLON_BEFORE, COMMA_BEFORE, COMMA_LEFT_OUT,
+    COMMA_THERE, CONST_BEFORE, DO, DO_BEFORE, END_LEFT_OUT, EQUAL, EQUAL_BEFORE, EXPORT, Fix,
+    HEADING_PAREN, INDEX, LEFT_PAREN, NOTHING, OF_ARRAY, OF_BEFORE, OF_TYPE, PAREN_BEFORE,
+    SEMICOLON, SEMICOLON_LEFT_OUT, SEMICOLON_THERE, THEN, THEN_BEFORE, TYPE_BEFORE, TYPE_NAME,
+    TYPE_SECTION, UNTIL_WORD, VAR_BEFORE, VAR_NAME, bytes_of, fixed, put, told_at_end,
 };
 use ob_mendings::mending::{Mending, Told};
 use ob_mendings::part::is_in_body;
@@ -113,6 +113,9 @@ const MARKS: &[Mark] = marks! {
     &[], Closed, &[Kind::Semicolon], &[], Kind::Comma => There COMMA_THERE;
     // `IF a THEN x := 1 END ELSE x := 2 END`
     &[Kind::End], Nothing, &[Kind::Else, Kind::Elsif], &[], Kind::Semicolon => Out END_LEFT_OUT;
+    // `TYPE T = RECORD .. END RECORD;`, `a OR ELSE b`
+    &[Kind::End], Nothing, &[Kind::Record], &[], Kind::Semicolon => There NOTHING;
+    &[Kind::Or], Nothing, &[Kind::Else], &[], Kind::Ident => There NOTHING;
     // `VAR x*: INTEGER`, `RECORD key*, value*: INTEGER END`, `CONST n* = 5`
     &[], Nothing, &[Kind::Times], &[Kind::Colon, Kind::Comma], Kind::Colon => There EXPORT;
     &[], Nothing, &[Kind::Times], &[Kind::Equal], Kind::Equal => There EXPORT;
@@ -154,11 +157,20 @@ const MARKS: &[Mark] = marks! {
     &[Kind::Const, Kind::Type, Kind::Var], Nothing, &[Kind::Semicolon], &[], Kind::Ident => There NOTHING;
     // `VAR x: INTEGER;; y: BOOLEAN`, `END P;; BEGIN`
     &[Kind::Semicolon], Outside, &[Kind::Semicolon], &[], Kind::Begin => There NOTHING;
+    // `VAR x, y, : INTEGER`, `RECORD .. END END;`
+    &[Kind::Comma], Nothing, &[Kind::Colon], &[], Kind::Ident => Out COMMA_LEFT_OUT;
+    &[Kind::End], Outside, &[Kind::End], &[Kind::Semicolon], Kind::Semicolon => There NOTHING;
+    // `PROCEDURE P(x: INTEGER;)`, `PROCEDURE P(x: INTEGER; BEGIN`, `PROCEDURE P(CONST x: INTEGER)`, `PROCEDURE P(&x: INTEGER)`, `PROCEDURE: P`
+    &[Kind::Semicolon], Nothing, &[Kind::RightParen], &[], Kind::Var => Out SEMICOLON_LEFT_OUT;
+    &[Kind::Semicolon], Nothing, &[Kind::Begin, Kind::Const, Kind::Type, Kind::Procedure], &[], Kind::Var => Last HEADING_PAREN;
+    &[Kind::LeftParen, Kind::Semicolon], Nothing, &[Kind::Const], &[Kind::Ident], Kind::Var => There NOTHING;
+    &[Kind::LeftParen, Kind::Semicolon], Nothing, &[Kind::And, Kind::Times], &[Kind::Ident], Kind::Var => There VAR_NAME;
+    &[Kind::Procedure], Nothing, &[Kind::Colon], &[Kind::Ident], Kind::Ident => There NOTHING;
     // a second VAR
     &[Kind::Semicolon, Kind::Comma], Outside, &[Kind::Var], &[Kind::Ident], Kind::Ident => There NOTHING;
     // `VAR x: INTEGER, y: INTEGER`, `CONST n = 5, m = 6`, `VAR x: INTEGER. BEGIN`
     &[Kind::Type, Kind::Colon, Kind::Of, Kind::Equal], Nothing, &[Kind::Comma], &[], Kind::Semicolon => There SEMICOLON_THERE;
-    &[Kind::Type, Kind::Colon, Kind::Of, Kind::Equal], Nothing, &[Kind::Dot],
+    &[Kind::Type, Kind::Colon, Kind::Of, Kind::Equal], Nothing, &[Kind::Dot, Kind::Colon],
         &[Kind::Ident, Kind::Const, Kind::Var, Kind::Procedure, Kind::Begin, Kind::End], Kind::Semicolon => There SEMICOLON_THERE;
     // `END IF;`, `END LOOP;`
     &[Kind::End], Nothing, &[Kind::If, Kind::While, Kind::Repeat], &[Kind::Semicolon, Kind::End, Kind::Else, Kind::Elsif], Kind::Semicolon =>

@@ -17,9 +17,10 @@ use ob_explain_tokens::parens::is_in_parens;
 use ob_explain_words::declaring::declares;
 use ob_mendings::capitals::small_words;
 use ob_mendings::fix::{
-    AND_WORD, BOOLEAN, ELSIF_WORD, END_WORD, EQUAL_RECORD, Fix, INTEGER, LOOP_WORD, MODULE_WORD,
-    NOT_WORD, POINTER, PROCEDURE_THERE, PROCEDURE_WORD, RECORD_WORD, SEMICOLON_THERE, UNEQUAL_WORD,
-    VAR_THERE, VAR_WORD, WORD_BEFORE, bytes_of, changed, fixed, worded,
+    AND_THEN, AND_WORD, BOOLEAN, COLON_BEFORE, ELSIF_WORD, END_WORD, EQUAL, EQUAL_RECORD, Fix,
+    INTEGER, LOOP_WORD, MODULE_WORD, NOT_WORD, NOTHING, POINTER, PROCEDURE_THERE, PROCEDURE_WORD,
+    RECORD_WORD, SEMICOLON_THERE, UNEQUAL_WORD, VAR_THERE, VAR_WORD, WORD_BEFORE, bytes_of,
+    changed, fixed, worded,
 };
 use ob_mendings::mending::{Elsewhere, Mending, Told};
 use ob_mendings::part::{ENDS, is_in_body, part_at};
@@ -59,6 +60,8 @@ const WORDS: &[Foreign] = words! {
     b"WEND" => END_WORD;
     b"LOOP" => LOOP_WORD;
     b"DECLARE" => VAR_THERE;
+    b"VARIABLE" => VAR_THERE;
+    b"VARIABLES" => VAR_THERE;
     b"IS" => SEMICOLON_THERE;
     b"AS" => SEMICOLON_THERE;
 };
@@ -92,6 +95,9 @@ const PREFIXES: &[Foreign] = words! {
     b"PRIVATE" => WORD_BEFORE;
     b"EXPORT" => WORD_BEFORE;
     b"STATIC" => WORD_BEFORE;
+    b"MUT" => WORD_BEFORE;
+    b"FINAL" => WORD_BEFORE;
+    b"AUTO" => WORD_BEFORE;
 };
 
 /// Types of other languages.
@@ -162,9 +168,14 @@ pub(crate) fn keyword_mending(
         );
     }
     match first_same(WORDS, site.word_of(Some(name))) {
-        Some(word) if is_new(site, name) => {
-            fixed(alloc, name.start, length_of(Some(name)), word.fix)
-        }
+        Some(word) if is_new(site, name) => match next_behind(site.tokens, name.start) {
+            // `a AND THEN b`
+            Some(then) if then.kind == Kind::Then && is_same_in_any_case(word.word, b"AND") => {
+                let taken = then.end.saturating_sub(name.start);
+                fixed(alloc, name.start, taken, AND_THEN)
+            }
+            _ => fixed(alloc, name.start, length_of(Some(name)), word.fix),
+        },
         _ => Ok(None),
     }
 }
@@ -333,7 +344,25 @@ pub(crate) fn prefix_mending(
         return Ok(None);
     };
     if let Some(heading) = heading_there(site) {
+        // `public void P(int x)`
+        if is_too_much(site, name) {
+            return fixed(alloc, name.start, length_of(Some(name)), WORD_BEFORE);
+        }
         return heading_with(alloc, site, here, heading);
+    }
+    // `private int x;`, behind another variable and before all, `public static void P`
+    let is_before_type = type_meant(site.word()).is_some() && is_kind(site.next(), Kind::Ident);
+    if is_too_much(site, name)
+        && !is_in_body(site.before)
+        && (is_before_type || is_too_much(site, here))
+    {
+        return fixed(alloc, name.start, length_of(Some(name)), WORD_BEFORE);
+    }
+    if is_too_much(site, here)
+        && !is_in_body(site.before)
+        && type_meant(site.word_of(site.next())).is_some()
+    {
+        return fixed(alloc, here.start, length_of(Some(here)), NOTHING);
     }
     if let Some(last) = variable_there(site) {
         let length = last.end.saturating_sub(here.start);
@@ -357,6 +386,14 @@ pub(crate) fn prefix_mending(
             prefix.fix,
         ),
         _ => Ok(None),
+    }
+}
+
+/// Whether a token is a word of another language that is too much before what is declared.
+fn is_too_much(site: &Site<'_, '_>, token: Token) -> bool {
+    match first_same(PREFIXES, site.word_of(Some(token))) {
+        Some(prefix) => is_new(site, token) && bytes_of(prefix.fix).is_empty(),
+        None => false,
     }
 }
 
@@ -447,6 +484,9 @@ pub(crate) fn swapped_mending(
     if is_in_body(site.before) {
         return Ok(None);
     }
+    if is_typed_name(site) {
+        return fixed(alloc, site.place, 0, COLON_BEFORE);
+    }
     let is_there = type_meant(site.word()).is_some() && is_kind(site.next(), Kind::Ident);
     let (named, name, end) = if is_there {
         (site.here(), site.next(), first_of(rest_of(site.behind)))
@@ -462,21 +502,49 @@ pub(crate) fn swapped_mending(
     }
 }
 
-/// What stands behind a type and a name: the length of an array, if there is one, and where the declaration ends.
+/// Whether a type stands at the place behind a name that is none, and a declaration ends behind it, as in `VAR x int;`.
+fn is_typed_name(site: &Site<'_, '_>) -> bool {
+    let leader = kind_or_name(site.second());
+    let name = site.word_of(site.last());
+    type_meant(site.word()).is_some()
+        && is_kind(site.last(), Kind::Ident)
+        && type_meant(name).is_none()
+        && first_same(HEADINGS, name).is_none()
+        && matches!(
+            leader,
+            Kind::Var | Kind::Semicolon | Kind::Comma | Kind::LeftParen | Kind::Record
+        )
+        && matches!(
+            kind_or_name(site.next()),
+            Kind::Semicolon | Kind::RightParen | Kind::Comma | Kind::End
+        )
+}
+
+/// What stands behind a type and a name: where the names end, the length of an array, if there is one, and where the declaration ends.
 #[derive(Clone, Copy)]
 struct Tail<'t> {
+    names: usize,
     length: &'t [u8],
     end: usize,
 }
 
-/// What stands behind this name, from that token on: nothing, a length in brackets, or a value, which is told of next.
+/// What stands behind this name, from that token on: nothing, further names, a length in brackets, or a value, which is told of next.
 fn tail_from<'t>(site: &Site<'t, '_>, name: Token, first: Token) -> Option<Tail<'t>> {
     let ends = &[Kind::RightBracket, Kind::Semicolon];
     match first.kind {
         Kind::Semicolon | Kind::RightParen | Kind::Equal | Kind::Assign => Some(Tail {
+            names: name.end,
             length: b"",
             end: name.end,
         }),
+        Kind::Comma => {
+            let last = last_name(site, first)?;
+            Some(Tail {
+                names: last.end,
+                length: b"",
+                end: last.end,
+            })
+        }
         Kind::LeftBracket => {
             let close = first_behind(site.tokens, first.start, ends)?;
             let behind = next_behind(site.tokens, close.start)?;
@@ -484,12 +552,29 @@ fn tail_from<'t>(site: &Site<'t, '_>, name: Token, first: Token) -> Option<Tail<
                 return None;
             }
             Some(Tail {
+                names: name.end,
                 length: between(site.text, first.end, close.start),
                 end: close.end,
             })
         }
         _ => None,
     }
+}
+
+/// The last of the names that commas separate, from this one on, up to a `;`.
+fn last_name(site: &Site<'_, '_>, comma: Token) -> Option<Token> {
+    let mut last = comma;
+    for token in site.tokens {
+        if token.start <= comma.start {
+            continue;
+        }
+        match (last.kind, token.kind) {
+            (Kind::Comma, Kind::Ident) | (Kind::Ident, Kind::Comma) => last = *token,
+            (Kind::Ident, Kind::Semicolon) => return Some(last),
+            _ => return None,
+        }
+    }
+    None
 }
 
 /// The mending of the name of a type and a name behind it, with what stands behind that.
@@ -504,7 +589,7 @@ fn declared_so(
         return Ok(None);
     };
     let mut put = Vec::from_slice(alloc, section_for(site))?;
-    put.extend_from_slice(site.word_of(Some(name)))?;
+    put.extend_from_slice(between(site.text, name.start, tail.names))?;
     put.extend_from_slice(b": ")?;
     if !tail.length.is_empty() {
         put.extend_from_slice(b"ARRAY ")?;
@@ -671,7 +756,7 @@ pub(crate) fn type_mending(
     }
 }
 
-/// The mending of a word for RECORD, behind the `=` of a type or behind its name alone.
+/// The mending of a word for RECORD, behind the `=` of a type or behind its name alone, and of IS for that `=`.
 pub(crate) fn record_mending(
     alloc: Global,
     site: &Site<'_, '_>,
@@ -684,7 +769,14 @@ pub(crate) fn record_mending(
     if is_in_body(site.before) {
         return Ok(None);
     }
-    if is_behind_name && last.kind == Kind::Ident && is_record_word(site, here) {
+    let begins_declared = is_behind_name || leader == Kind::Const;
+    if begins_declared
+        && last.kind == Kind::Ident
+        && is_new(site, here)
+        && is_same_in_any_case(site.word(), b"IS")
+    {
+        fixed(alloc, here.start, length_of(Some(here)), EQUAL)
+    } else if is_behind_name && last.kind == Kind::Ident && is_record_word(site, here) {
         fixed(alloc, here.start, length_of(Some(here)), EQUAL_RECORD)
     } else if leads_to_type(leader) && here.kind == Kind::Ident && is_record_word(site, last) {
         fixed(alloc, last.start, length_of(Some(last)), RECORD_WORD)
