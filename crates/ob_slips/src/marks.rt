@@ -141,6 +141,10 @@ const MARKS: &[Mark] = marks! {
     &[], Nothing, &[Kind::Assign, Kind::Then, Kind::Do, Kind::Semicolon, Kind::End, Kind::RightParen], &[], Kind::RightBracket => Before BRACKET_BEFORE;
     // `VAR x, y;`, `PROCEDURE P(x, y)`
     &[], Nothing, &[Kind::Semicolon, Kind::RightParen], &[], Kind::Colon => Before TYPE_BEFORE;
+};
+
+/// The marks behind those: of declarations, headings, and statements that are joined.
+const FURTHER_MARKS: &[Mark] = marks! {
     // a declaration or a statement in no section, or in one of another kind
     &[], Typed, &[Kind::Ident], &[Kind::Equal], Kind::Type => Before TYPE_SECTION;
     &[], Outside, &[Kind::Ident], &[Kind::Equal], Kind::Const => Before CONST_BEFORE;
@@ -210,15 +214,18 @@ pub(crate) fn mark_mending(
     site: &Site<'_, '_>,
 ) -> Result<Option<Mending>, AllocError> {
     let could = expected_kinds(alloc, site.text, site.place)?;
-    match first_around(site, &could) {
+    if let Some(mark) = first_around(site, &could, MARKS) {
+        return meant_there(alloc, site, mark.meant);
+    }
+    match first_around(site, &could, FURTHER_MARKS) {
         Some(mark) => meant_there(alloc, site, mark.meant),
         None => Ok(None),
     }
 }
 
-/// The first mark that stands around the place.
-fn first_around(site: &Site<'_, '_>, could: &[Kind]) -> Option<Mark> {
-    for mark in MARKS {
+/// The first of these marks that stands around the place.
+fn first_around(site: &Site<'_, '_>, could: &[Kind], marks: &[Mark]) -> Option<Mark> {
+    for mark in marks {
         if stands_around(site, could, mark) && holds_there(site, mark.asked) {
             return Some(*mark);
         }
