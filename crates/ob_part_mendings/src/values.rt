@@ -326,8 +326,7 @@ fn put_length(
 fn indices_behind(site: &Site<'_, '_>, leader: Token, end: usize) -> Option<usize> {
     let first = first_behind(site.tokens, leader.start, &[Kind::Number])?;
     let last = first_behind(site.tokens, first.start, &[Kind::Number])?;
-    let (_, dots) = halves(site.text, first.end);
-    if end < last.end || !dots.starts_with(b"..") {
+    if end < last.end || between(site.text, first.end, last.start) != b"..".as_slice() {
         return None;
     }
     let most = number_at(site, last).saturating_add(1);
@@ -480,21 +479,31 @@ fn gap_length(put: &mut Vec<u8>, site: &Site<'_, '_>) -> Result<Option<usize>, A
     Ok(Some(gap.end.start))
 }
 
-/// The first and the last index of an array, around a `..`, and where what stands around them ends.
+/// The first and the last index of an array, around a `..`, whether the last one has a `- 1` behind it, and where what stands around them ends.
 #[derive(Clone, Copy)]
 struct Range {
     first: usize,
     last: Token,
+    is_less: bool,
     end: usize,
 }
 
-/// The range `1 .. n` or `0 .. 9`, with the parentheses or the brackets that begin here.
+/// The range `1 .. n`, `0 .. n - 1` or `0 .. 9`, with the parentheses or the brackets that begin here.
 fn range_from(site: &Site<'_, '_>, open: Token) -> Option<Range> {
     let first = next_behind(site.tokens, open.start)?;
     let dot = next_behind(site.tokens, first.start)?;
     let other = next_behind(site.tokens, dot.start)?;
     let last = next_behind(site.tokens, other.start)?;
-    let close = next_behind(site.tokens, last.start)?;
+    let behind = next_behind(site.tokens, last.start)?;
+    let (is_less, close) = if behind.kind == Kind::Minus {
+        let one = next_behind(site.tokens, behind.start)?;
+        (
+            between(site.text, one.start, one.end) == b"1".as_slice(),
+            next_behind(site.tokens, one.start)?,
+        )
+    } else {
+        (false, behind)
+    };
     let is_closed = matches!(
         (open.kind, close.kind),
         (Kind::LeftParen, Kind::RightParen) | (Kind::LeftBracket, Kind::RightBracket)
@@ -507,6 +516,7 @@ fn range_from(site: &Site<'_, '_>, open: Token) -> Option<Range> {
         Some(Range {
             first: number_at(site, first),
             last,
+            is_less,
             end: close.end,
         })
     } else {
@@ -517,20 +527,61 @@ fn range_from(site: &Site<'_, '_>, open: Token) -> Option<Range> {
 /// How many indices a range has, as it is put for the length; nothing where no number tells it.
 fn put_indices(put: &mut Vec<u8>, site: &Site<'_, '_>, range: Range) -> Result<(), AllocError> {
     let mut buffer = Buffer::new();
-    match (range.last.kind, range.first) {
-        (Kind::Number, first) => {
+    match (range.last.kind, range.first, range.is_less) {
+        (Kind::Number, first, false) => {
             let count = number_at(site, range.last)
                 .saturating_add(1)
                 .saturating_sub(first);
             put.extend_from_slice(buffer.format(count).as_bytes())
         }
-        (_, 0) => {
+        (Kind::Ident, 0, false) => {
             put.extend_from_slice(site.word_of(Some(range.last)))?;
             put.extend_from_slice(b" + 1")
         }
-        (_, 1) => put.extend_from_slice(site.word_of(Some(range.last))),
+        (Kind::Ident, 0, true) | (Kind::Ident, 1, false) => {
+            put.extend_from_slice(site.word_of(Some(range.last)))
+        }
         _ => Ok(()),
     }
+}
+
+/// The mending of a hexadecimal number, as `0x1F`: its value.
+pub fn hexadecimal_mending(
+    alloc: Global,
+    site: &Site<'_, '_>,
+) -> Result<Option<Mending>, AllocError> {
+    let (Some(zero), Some(digits)) = (site.last(), site.here()) else {
+        return Ok(None);
+    };
+    let is_zero = zero.kind == Kind::Number && number_at(site, zero) == 0;
+    let value = match site.word() {
+        [b'x' | b'X', rest @ ..] => hexadecimal(rest),
+        _ => None,
+    };
+    match value {
+        Some(value) if is_zero && zero.end == digits.start => {
+            let mut buffer = Buffer::new();
+            let taken = digits.end.saturating_sub(zero.start);
+            let put = buffer.format(value).as_bytes();
+            worded(alloc, zero.start, taken, put, " in its place")
+        }
+        _ => Ok(None),
+    }
+}
+
+/// The value of hexadecimal digits, of which there are one to seven.
+fn hexadecimal(digits: &[u8]) -> Option<usize> {
+    let mut value: usize = 0;
+    for digit in digits {
+        let one = match *digit {
+            b'0'..=b'9' => digit.saturating_sub(b'0'),
+            b'a'..=b'f' => digit.saturating_sub(b'a').saturating_add(10),
+            b'A'..=b'F' => digit.saturating_sub(b'A').saturating_add(10),
+            _ => return None,
+        };
+        value = value.saturating_mul(16).saturating_add(usize::from(one));
+    }
+    (!digits.is_empty() && digits.len() < 8).then_some(value)
 }
 
 /// The number that a token is.

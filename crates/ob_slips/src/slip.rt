@@ -40,8 +40,8 @@ use ob_part_mendings::headings::{
     export_mending, heading_mending, late_star_mending, star_mending,
 };
 use ob_part_mendings::values::{
-    length_mending, not_mending, out_mending, range_mending, result_mending, truth_mending,
-    typed_mending, value_mending, var_mending,
+    hexadecimal_mending, length_mending, not_mending, out_mending, range_mending, result_mending,
+    truth_mending, typed_mending, value_mending, var_mending,
 };
 use ob_scan::{Kind, ScanFault};
 use ob_scopes::fault::CheckFault;
@@ -54,7 +54,8 @@ enum Sort {
     /// A byte that begins no token, and a number that is too large.
     Byte,
     Number,
-    /// A sign of another language, and an `=` that is meant to assign.
+    /// A hexadecimal number, a sign of another language, and an `=` that is meant to assign.
+    Hexadecimal,
     Sign,
     Assign,
     /// A keyword in small letters, or a word of another language: there, before it, or where the statement begins.
@@ -159,6 +160,7 @@ const OF_TOKENS: &[Sort] = &[
     Sort::Import,
     Sort::Dot,
     Sort::Nameless,
+    Sort::Hexadecimal,
     Sort::Sign,
     Sort::Assign,
     Sort::WordThere,
@@ -277,6 +279,7 @@ fn mending_of(
     match sort {
         Sort::Byte => byte_mending(alloc, site.text, site.place),
         Sort::Number => number_mending(alloc, site.text, site.place),
+        Sort::Hexadecimal => hexadecimal_mending(alloc, site),
         Sort::Sign => sign_mending(alloc, site.text, site.place),
         Sort::Assign => assign_mending(alloc, site),
         Sort::WordThere => keyword_mending(alloc, site, site.here()),

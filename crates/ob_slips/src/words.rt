@@ -626,6 +626,10 @@ pub(crate) fn index_mending(
     site: &Site<'_, '_>,
 ) -> Result<Option<Mending>, AllocError> {
     let ends = [Kind::RightParen, Kind::LeftParen, Kind::Semicolon];
+    // `a(i)(j) := 1`
+    if is_kind(site.here(), Kind::LeftParen) && is_kind(site.last(), Kind::RightParen) {
+        return twice_bracketed(alloc, site);
+    }
     let (open, close) = if is_kind(site.here(), Kind::Assign) {
         (token_of(site.before, &[Kind::LeftParen]), site.last())
     } else {
@@ -700,18 +704,55 @@ fn bracketed(
         return Ok(None);
     };
     let name = site.word_of(Some(last));
-    if is_procedure(site, site.tokens, name)
-        || !declares(site.text, site.tokens, name)
-        || !are_known(site, open.end, close.start)
-    {
+    // Behind `a[i]` stands an index of the element.
+    let is_element = last.kind == Kind::RightBracket;
+    let is_variable = !is_procedure(site, site.tokens, name)
+        && declares(site.text, site.tokens, name);
+    if !is_element && !is_variable || !are_known(site, open.end, close.start) {
         return Ok(None);
     }
+    let begin = if is_element { open.start } else { last.start };
     let mut put = Vec::from_slice(alloc, name)?;
     put.push(b'[')?;
     put.extend_from_slice(between(site.text, open.end, close.start))?;
     put.push(b']')?;
-    let taken = close.end.saturating_sub(last.start);
-    worded(alloc, last.start, taken, &put, " in its place")
+    let taken = close.end.saturating_sub(begin);
+    worded(alloc, begin, taken, &put, " in its place")
+}
+
+/// The mending of two indices in parentheses, where the second ones begin at the place: brackets for all.
+fn twice_bracketed(alloc: Global, site: &Site<'_, '_>) -> Result<Option<Mending>, AllocError> {
+    let (Some(first), Some(end), Some(second), Some(close)) = (
+        token_of(site.before, &[Kind::LeftParen]),
+        site.last(),
+        site.here(),
+        token_of(
+            site.behind,
+            &[Kind::RightParen, Kind::LeftParen, Kind::Semicolon],
+        ),
+    ) else {
+        return Ok(None);
+    };
+    let name = match last_before(site.before, first.start) {
+        Some(name) if close.kind == Kind::RightParen => name,
+        _ => return Ok(None),
+    };
+    let word = site.word_of(Some(name));
+    if is_procedure(site, site.tokens, word)
+        || !declares(site.text, site.tokens, word)
+        || !are_known(site, first.end, end.start)
+        || !are_known(site, second.end, close.start)
+    {
+        return Ok(None);
+    }
+    let mut put = Vec::from_slice(alloc, word)?;
+    put.push(b'[')?;
+    put.extend_from_slice(between(site.text, first.end, end.start))?;
+    put.extend_from_slice(b"][")?;
+    put.extend_from_slice(between(site.text, second.end, close.start))?;
+    put.push(b']')?;
+    let taken = close.end.saturating_sub(name.start);
+    worded(alloc, name.start, taken, &put, " in its place")
 }
 
 /// The mending of `POINTER TO` before a type.
