@@ -56,13 +56,17 @@ pub(crate) fn number_of(scalar: Scalar) -> u64 {
 /// The words of a state as a number.
 fn number_of_words(words: &[u64]) -> u64 {
     let mut number = 0_u64;
-    if let [word] = words {
-        return *word;
-    }
     for word in words {
-        number = number.wrapping_mul(31).wrapping_add(*word);
+        number = joined(number, *word);
     }
     number
+}
+
+/// A number of two, so that small ones that differ a little differ in their upper bits.
+#[inline(always)]
+fn joined(number: u64, other: u64) -> u64 {
+    let spread = number.wrapping_mul(SPREAD);
+    (spread ^ (spread >> 29)).wrapping_add(other)
 }
 
 /// The row of a call on the state with these words.
@@ -70,13 +74,11 @@ fn number_of_words(words: &[u64]) -> u64 {
 fn row_of(words: &[u64], call: SeenCall) -> usize
     ensures { result < 256 }
 {
-    let mut number = number_of_words(words)
-        .wrapping_mul(31)
-        .wrapping_add(call.proc as u64);
+    let mut number = joined(number_of_words(words), call.proc as u64);
     // Mostly there are no arguments.
     if !call.args.is_empty() {
         for scalar in call.args.lent().as_slice() {
-            number = number.wrapping_mul(31).wrapping_add(number_of(*scalar));
+            number = joined(number, number_of(*scalar));
         }
     }
     (number.wrapping_mul(SPREAD) >> 56) as usize % ROWS

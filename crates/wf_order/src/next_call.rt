@@ -38,7 +38,7 @@ pub(crate) struct Turn {
 
 /// Puts the next calls that begin at a place or behind it, and before the limit, into a list without items.
 pub(crate) fn turns_from(
-    turns: &mut SmallVec<Turn, 16>,
+    turns: &mut SmallVec<Turn, 8>,
     rows: &Rows,
     counts: &[u32],
     from: usize,
