@@ -431,21 +431,13 @@ fn declaring_at(tokens: &[Token]) -> Option<Declaring> {
                 is_var: true,
             });
         } else if matches!(kind, Kind::Procedure | Kind::Module) {
-            return declaring_before(before);
+            return Some(Declaring {
+                token: before?,
+                is_var: false,
+            });
         }
     }
     None
-}
-
-/// That a VAR is to stand before this token.
-fn declaring_before(before: Option<Token>) -> Option<Declaring> {
-    match before {
-        Some(token) => Some(Declaring {
-            token,
-            is_var: false,
-        }),
-        None => None,
-    }
 }
 
 /// Where the body around the place begins, and the next procedure behind it.

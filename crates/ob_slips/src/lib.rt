@@ -9,6 +9,7 @@ mod ends;
 pub mod further_faults;
 mod marks;
 mod names;
+mod numbers;
 mod slip;
 pub mod slip_remark;
 pub mod stage;

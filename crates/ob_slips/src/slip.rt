@@ -6,6 +6,7 @@ use crate::ends::{
 };
 use crate::marks::{mark_mending, semicolon_behind};
 use crate::names::{end_mending, near_mending};
+use crate::numbers::hexadecimal_mending;
 use crate::words::{
     alone_before, alone_there, call_mending, colon_mending, index_mending, keyword_mending,
     misspelt_before, misspelt_first, misspelt_there, pointer_mending, prefix_mending,
@@ -40,8 +41,8 @@ use ob_part_mendings::headings::{
     export_mending, heading_mending, late_star_mending, star_mending,
 };
 use ob_part_mendings::values::{
-    hexadecimal_mending, length_mending, not_mending, out_mending, range_mending, result_mending,
-    truth_mending, typed_mending, value_mending, var_mending,
+    length_mending, not_mending, out_mending, range_mending, result_mending, truth_mending,
+    typed_mending, value_mending, var_mending,
 };
 use ob_scan::{Kind, ScanFault};
 use ob_scopes::fault::CheckFault;
