@@ -52,6 +52,19 @@ pub fn is_same_reply(reply: &Reply, other: SeenReply) -> bool
     }
 }
 
+/// Whether two replies are the same.
+pub fn are_equal_replies(reply: &Reply, other: &Reply) -> bool
+    ensures { IsTrue result → reply_of reply.now ≡ reply_of other.now }
+{
+    match (reply, other) {
+        (Reply::Done(values), Reply::Done(others)) => {
+            are_equal(values.as_slice(), others.as_slice())
+        }
+        (Reply::Trap(number), Reply::Trap(other)) => *number == *other,
+        _ => false,
+    }
+}
+
 /// Whether two replies of a history are the same.
 #[inline(always)]
 pub fn are_same_replies(reply: SeenReply, other: SeenReply) -> bool

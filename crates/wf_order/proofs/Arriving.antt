@@ -12,7 +12,7 @@ use Rattle.wf_history.proofs.Positions.{contains_at, one_item}
 use Rattle.wf_order.specs.declared.rows.Rows.{Rows}
 use Rattle.wf_order.specs.declared.search.Frame.{Frame}
 use Rattle.wf_order.specs.Rows.{AreRows, begun_rows, call_at, row_of}
-use Rattle.wf_order.specs.Rules.{IsAnswered, IsMet, Passes, none_passed, one_passed}
+use Rattle.wf_order.specs.Rules.{IsAnswered, IsMet, IsStoodFor, Passes, none_passed, one_passed}
 use Rattle.wf_order.specs.Steps.{Configuration, IsLimit, IsStep, IsDone, one_more}
 use Rattle.wf_order.specs.Search.{ids_of, IsAttempt, IsChoice, IsSilentStep, IsSearch, IsPassed, LeadsOn, IsArrival, left, weights, work}
 use Rattle.wf_order.specs.Turns.{BeginsFrom, turns}
@@ -76,7 +76,7 @@ module _ {M : Type 0} (Effect : ObjectCall → M → M → Reply → Type 0) (hi
 
     module _ (live : f.next < length history) (d0 d : Configuration M) (step : IsStep Effect history c g.id d0) (ps : List Frame)
         (past : (p : Frame) → Contains ps p → (p.place ≡ f.place) × (length history ≤ p.next)) (passes : Passes Effect history d0 (ids_of ps) d)
-        (covers : (all later : List (Configuration M)) → all ≡ found ++ later → IsMet Effect history all d0 → (id : CallId) (y : Configuration M) (call : ObjectCall) (begun : ℕ) → slice_get history begun ≡ Some (Begin id call) → f.next ≤ begun → begun < g.next →
+        (covers : (all later : List (Configuration M)) → all ≡ found ++ later → IsMet Effect history all c d0 → (id : CallId) (y : Configuration M) (call : ObjectCall) (begun : ℕ) → slice_get history begun ≡ Some (Begin id call) → f.next ≤ begun → begun < g.next →
         IsStep Effect history c id y → IsAnswered Effect history all c id y) where
       left_less : left (map length (begun_rows rows)) d.counts + length ps + 1 ≡ left (map length (begun_rows rows)) (row_of (map (λ c. c.counts) found) f.place)
       left_less =
@@ -121,12 +121,19 @@ module _ {M : Type 0} (Effect : ObjectCall → M → M → Reply → Type 0) (hi
             | inl old ↦
                 subst (λ (l : List (Configuration M)). IsSearch Effect history processes Led start l stack × (work processes rows l stack < work processes rows found (xs ++ f ∷ []))) (sym old.1)
                 (subst (λ (l : List Frame). IsSearch Effect history processes Led start found l × (work processes rows found l < work processes rows found (xs ++ f ∷ []))) (sym old.2)
-                (advanced_past Effect history processes Led leads_on start found xs f g h c at place limit live ps past (covers found [] (sym (append-nil found)) (ids_of ps, d, passes, old.0)), old_less))
+                (advanced_past Effect history processes Led leads_on start found xs f g h c at place limit live ps past (covers found [] (sym (append-nil found)) (ids_of ps, d, passes, inl old.0)), old_less))
             | inr new ↦
                 subst (λ (l : List (Configuration M)). IsSearch Effect history processes Led start l stack × (work processes rows l stack < work processes rows found (xs ++ f ∷ []))) (sym new.0)
                 (subst (λ (l : List Frame). IsSearch Effect history processes Led start (found ++ d ∷ []) l × (work processes rows (found ++ d ∷ []) l < work processes rows found (xs ++ f ∷ []))) (sym new.2)
-                (pushed Effect history processes Led leads_on start found xs f g h c at place limit live ps past d0 d step passes (covers (found ++ d ∷ []) (d ∷ []) refl (ids_of ps, d, passes, Contains-push found d)) a.0 new.1 new.3 new.4 new.5, new_less new.1 new.3))
+                (pushed Effect history processes Led leads_on start found xs f g h c at place limit live ps past d0 d step passes (covers (found ++ d ∷ []) (d ∷ []) refl (ids_of ps, d, passes, inl (Contains-push found d))) a.0 new.1 new.3 new.4 new.5, new_less new.1 new.3))
           ]
+
+      -- or where they lead is stood for
+      after_standing : IsStoodFor Effect history found c d → IsSearch Effect history processes Led start found ((xs ++ g ∷ []) ++ ps) × (work processes rows found ((xs ++ g ∷ []) ++ ps) < work processes rows found (xs ++ f ∷ []))
+      after_standing stood_for = (
+        advanced_past Effect history processes Led leads_on start found xs f g h c at place limit live ps past (covers found [] (sym (append-nil found)) (ids_of ps, d, passes, inr stood_for)),
+        old_less,
+      )
 
       pub after_found : (more : List (Configuration M)) (stack : List Frame) (path : List CallId) → IsArrival Effect history d found more ((xs ++ g ∷ []) ++ ps) stack (Some path) →
           (e : Configuration M) × Led path e × IsDone Effect history e
@@ -144,7 +151,7 @@ module _ {M : Type 0} (Effect : ObjectCall → M → M → Reply → Type 0) (hi
 
     pub concluded : (live : f.next < length history) {V : Type 0} (items : V → List CallId) (d0 d : Configuration M) (tried passed : List Frame) (more : List (Configuration M)) (stack : List Frame) (to : Option V) →
         IsStep Effect history c g.id d0 →
-        ((all later : List (Configuration M)) → all ≡ found ++ later → IsMet Effect history all d0 → (id : CallId) (y : Configuration M) (call : ObjectCall) (begun : ℕ) → slice_get history begun ≡ Some (Begin id call) → f.next ≤ begun → begun < g.next →
+        ((all later : List (Configuration M)) → all ≡ found ++ later → IsMet Effect history all c d0 → (id : CallId) (y : Configuration M) (call : ObjectCall) (begun : ℕ) → slice_get history begun ≡ Some (Begin id call) → f.next ≤ begun → begun < g.next →
         IsStep Effect history c id y → IsAnswered Effect history all c id y) →
         tried ≡ xs ++ g ∷ [] → IsPassed Effect history f.place d0 d tried passed → IsArrival Effect history d found more passed stack (option_map items to) →
         MatchOption to (IsSearch Effect history processes Led start more stack × (work processes rows more stack < work processes rows found (xs ++ f ∷ [])))
@@ -152,6 +159,16 @@ module _ {M : Type 0} (Effect : ObjectCall → M → M → Reply → Type 0) (hi
     concluded live items d0 d tried passed more stack to step covers t p a =
         at_arrival live d0 d step p.frames p.past p.passes covers items more stack to
         (subst (λ (l : List Frame). IsArrival Effect history d found more l stack (option_map items to)) (p.pushed ∙ ap (λ (l : List Frame). l ++ p.frames) t) a)
+
+    pub stood_for : (live : f.next < length history) (d0 d : Configuration M) (tried passed : List Frame) → IsStep Effect history c g.id d0 →
+        ((all later : List (Configuration M)) → all ≡ found ++ later → IsMet Effect history all c d0 → (id : CallId) (y : Configuration M) (call : ObjectCall) (begun : ℕ) → slice_get history begun ≡ Some (Begin id call) → f.next ≤ begun → begun < g.next →
+        IsStep Effect history c id y → IsAnswered Effect history all c id y) →
+        tried ≡ xs ++ g ∷ [] → IsPassed Effect history f.place d0 d tried passed → IsStoodFor Effect history found c d →
+        IsSearch Effect history processes Led start found passed × (work processes rows found passed < work processes rows found (xs ++ f ∷ []))
+    stood_for live d0 d tried passed step covers t p stands =
+        subst (λ (l : List Frame). IsSearch Effect history processes Led start found l × (work processes rows found l < work processes rows found (xs ++ f ∷ [])))
+        (sym (p.pushed ∙ ap (λ (l : List Frame). l ++ p.frames) t))
+        (after_standing live d0 d step p.frames p.past p.passes covers stands)
 
 -- a step leaves the number of processes
 pub step_rows : {M : Type 0} (Effect : ObjectCall → M → M → Reply → Type 0) (history : List (Event ObjectCall Reply)) (rows : Rows) (c d : Configuration M) (id : CallId) →
@@ -161,24 +178,24 @@ step_rows Effect history rows c d id s are =
 
 module _ {M : Type 0} (Effect : ObjectCall → M → M → Reply → Type 0) (history : List (Event ObjectCall Reply)) (c : Configuration M) (id : CallId) (d : Configuration M) where
   -- a silent call is tried
-  pub silent_covers : (all : List (Configuration M)) → IsMet Effect history all d → (other : CallId) (e : Configuration M) → IsSilentStep Effect history c id d → IsAnswered Effect history all c other e
+  pub silent_covers : (all : List (Configuration M)) → IsMet Effect history all c d → (other : CallId) (e : Configuration M) → IsSilentStep Effect history c id d → IsAnswered Effect history all c other e
   silent_covers all there other e silent = inr (inl (record { id = id; to = d; step = silent.0; silent = silent.1; there = there }))
 
   -- what was to be tried next is tried
   pub attempt_covers : (processes : ℕ) (Led : List CallId → Configuration M → Type 0) (leads_on : LeadsOn Effect history Led) (start : Configuration M) (rows : Rows) (found : List (Configuration M)) (from next : ℕ) → IsAttempt Effect history rows found c from next id d →
-      (all later : List (Configuration M)) → all ≡ found ++ later → IsMet Effect history all d → (other : CallId) (e : Configuration M) (call : ObjectCall) (begun : ℕ) → slice_get history begun ≡ Some (Begin other call) → from ≤ begun → begun < next →
+      (all later : List (Configuration M)) → all ≡ found ++ later → IsMet Effect history all c d → (other : CallId) (e : Configuration M) (call : ObjectCall) (begun : ℕ) → slice_get history begun ≡ Some (Begin other call) → from ≤ begun → begun < next →
       IsStep Effect history c other e → IsAnswered Effect history all c other e
   attempt_covers processes Led leads_on start rows found from next a all later is there other e call begun at le lt s =
       elim (a.covers other e call begun at le lt s) [
         | inl answered ↦ subst (λ (l : List (Configuration M)). IsAnswered Effect history l c other e) (sym is) (answered_grown Effect history processes Led leads_on start found later c other e answered)
-        | inr same ↦ inl (subst (λ (x : Configuration M). IsMet Effect history all x) (sym same) there)
+        | inr same ↦ inl (subst (λ (x : Configuration M). IsMet Effect history all c x) (sym same) there)
       ]
 
 -- The step is the one that is tried: fewer turns are left, and what begins up to the next place was tried, or need not be.
 pub record IsTried {M : Type 0} (Effect : ObjectCall → M → M → Reply → Type 0) (history : List (Event ObjectCall Reply)) (rows : Rows) (found : List (Configuration M)) (c : Configuration M) (from next : ℕ) (id : CallId) (d : Configuration M) : Type 0 where
   pub step : IsStep Effect history c id d
   pub fewer : turns next (begun_rows rows) c.counts + 1 ≤ turns from (begun_rows rows) c.counts
-  pub covers : (all later : List (Configuration M)) → all ≡ found ++ later → IsMet Effect history all d → (other : CallId) (e : Configuration M) (call : ObjectCall) (begun : ℕ) → slice_get history begun ≡ Some (Begin other call) → from ≤ begun → begun < next →
+  pub covers : (all later : List (Configuration M)) → all ≡ found ++ later → IsMet Effect history all c d → (other : CallId) (e : Configuration M) (call : ObjectCall) (begun : ℕ) → slice_get history begun ≡ Some (Begin other call) → from ≤ begun → begun < next →
       IsStep Effect history c other e → IsAnswered Effect history all c other e
 
 module _ {M : Type 0} (Effect : ObjectCall → M → M → Reply → Type 0) (history : List (Event ObjectCall Reply)) (processes : ℕ) (Led : List CallId → Configuration M → Type 0) (leads_on : LeadsOn Effect history Led) (start : Configuration M)

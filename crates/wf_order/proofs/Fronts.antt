@@ -17,16 +17,18 @@ use Rattle.wf_order.specs.declared.search.Frame.{Frame}
 use Rattle.wf_order.specs.declared.seen.Found.{Found}
 use Rattle.wf_order.specs.Fronts.{AreFramed, AreSized, EndsBefore, IsFarthest, IsFresh}
 use Rattle.wf_order.specs.Rows.{AreRows, call_at, ended_rows, row_of}
-use Rattle.wf_order.specs.Rules.{ComesFirst, ends, open_ones, IsAnswered, IsBehind, IsIdle, IsMet, IsOpen, IsSilent, Passes, none_passed, one_passed}
+use Rattle.wf_order.specs.Rules.{ComesFirst, ends, open_ones, IsAnswered, IsBehind, IsIdle, IsMet, IsOpen, IsSilent, IsSo, IsStoodFor, Passes, none_passed, one_passed}
 use Rattle.wf_order.specs.Search.{found_in, IsLed, IsSearch, IsWholeSearch}
 use Rattle.wf_order.specs.Steps.{Configuration, IsTaken, IsLimit, IsStep, Leads, none, more, start_at}
 use Rattle.wf_order.specs.Turns.{BeginsFrom}
 use Rattle.wf_order.specs.Verdict.{HasLegal}
 use Rattle.wf_order.proofs.Beginnings.{legal_before, nothing_legal}
+use Rattle.wf_order.proofs.Completeness.{none_taken}
 use Rattle.wf_order.proofs.Exchange.{IsNext, own_number, own_within}
 use Rattle.wf_order.proofs.Keeping.{mapped_some}
 use Rattle.wf_order.proofs.Places.{before_at, places_before}
-use Rattle.wf_order.proofs.Soundness.{step_grows}
+use Rattle.wf_order.proofs.Searching.{leads_push}
+use Rattle.wf_order.proofs.Soundness.{step_grows, taken_back, taken_now}
 use Rattle.wf_order.proofs.Turns.{take_whole}
 
 module _ {State Call Reply : Type 0} (Effect : Call → State → State → Reply → Type 0) (history : List (Event Call Reply)) (whole : IsHistory history) (count : ℕ) where
@@ -82,25 +84,25 @@ module _ {State Call Reply : Type 0} (Effect : Call → State → State → Repl
         (one_passed (step_front c d id s here) (λ call before after reply begun effect. reads call before after reply (of_front (Begin id call) begun) effect) rest.0, here)
 
   -- where each end of its call is in the front, a step in the front is one
-  module _ (c d : Configuration State) (id : CallId) (s : IsStep Effect (take count history) c id d) where
-    before_front : (a : CallId) → Before history a id → Before (take count history) a id
-    before_front a bef =
-        let p = places_before history bef in
-        let k = place_of (take count history) (Begin id s.call) s.begun in
-        let t = place_take count history k.0 (Begin id s.call) k.1 in
-        let same = one_begin history whole id p.3 k.0 p.1 s.call p.6 t.0 in
-        let less = p.4 in
-        let early = t.1 in
-        before_at (take count history) a id p.0 p.1 p.2 p.3 p.4 (place_in_take count history p.2 (End a p.0) p.5 (omega (arith, less, same, early)))
-        (place_in_take count history p.3 (Begin id p.1) p.6 (omega (arith, same, early)))
+  begun_before_front : (id : CallId) (call : Call) → HasBegun (take count history) id call → (a : CallId) → Before history a id → Before (take count history) a id
+  begun_before_front id call begun a bef =
+      let p = places_before history bef in
+      let k = place_of (take count history) (Begin id call) begun in
+      let t = place_take count history k.0 (Begin id call) k.1 in
+      let same = one_begin history whole id p.3 k.0 p.1 call p.6 t.0 in
+      let less = p.4 in
+      let early = t.1 in
+      before_at (take count history) a id p.0 p.1 p.2 p.3 p.4 (place_in_take count history p.2 (End a p.0) p.5 (omega (arith, less, same, early)))
+      (place_in_take count history p.3 (Begin id p.1) p.6 (omega (arith, same, early)))
 
+  module _ (c d : Configuration State) (id : CallId) (s : IsStep Effect (take count history) c id d) where
     step_whole : ((reply : Reply) (k : ℕ) → slice_get history k ≡ Some (End id reply) → k < count) → IsStep Effect history c id d
     step_whole early = record {
       call = s.call;
       begun = of_front (Begin id s.call) s.begun;
       process = s.process;
       number = s.number;
-      earlier = λ a bef. s.earlier a (before_front a bef);
+      earlier = λ a bef. s.earlier a (begun_before_front id s.call s.begun a bef);
       reply = s.reply;
       effect = s.effect;
       agrees = λ other ended. let k = place_of history (End id other) ended in s.agrees other (in_front (End id other) k.0 k.1 (early other k.0 k.1));
@@ -187,7 +189,7 @@ module _ {M : Type 0} (Effect : ObjectCall → M → M → Reply → Type 0) (hi
       (next_early c next before (own_within Effect front (take_whole count history are.whole) id (open_front id opened) c d e next in_turn s.counts t)
       (own_number Effect front (take_whole count history are.whole) id (open_front id opened) c d e next in_turn s.counts t))
 
-  module _ (start : Configuration M) (found : List (Configuration M)) (h : IsSearch Effect history processes (IsLed Effect history true start) start found [])
+  module _ (start : Configuration M) (nothing : (a : CallId) → IsTaken start.counts a → ⊥) (found : List (Configuration M)) (h : IsSearch Effect history processes (IsLed Effect history true start) start found [])
       (farthest : ℕ) (far : IsFarthest history (map counts_in found) farthest) (less : farthest < count) (within : count ≤ length history) where
     -- of each configuration an end in the front is not taken
     undone : (c : Configuration M) → Contains found c → (a : CallId) × (reply : Reply) × (place : ℕ) × (slice_get history place ≡ Some (End a reply)) × (place < count) × ¬ IsTaken c.counts a
@@ -231,23 +233,121 @@ module _ {M : Type 0} (Effect : ObjectCall → M → M → Reply → Type 0) (hi
           ];
     }
 
+    -- where what is taken has begun in the front, calls that only read lead where they lead among all events
+    step_begun : (c d : Configuration M) (id : CallId) → (s : IsStep Effect history c id d) → ((k : ℕ) → slice_get history k ≡ Some (Begin id s.call) → k < count) → IsStep Effect (take count history) c id d
+    step_begun c d id s early =
+        let p = place_of history (Begin id s.call) s.begun in
+        record {
+          call = s.call;
+          begun = in_front Effect history are.whole count (Begin id s.call) p.0 p.1 (early p.0 p.1);
+          process = s.process;
+          number = s.number;
+          earlier = λ b bef. s.earlier b (before_of_front Effect history are.whole count b id bef);
+          reply = s.reply;
+          effect = s.effect;
+          agrees = λ other ended. s.agrees other (of_front Effect history are.whole count (End id other) ended);
+          counts = s.counts;
+        }
+
+    abbrev HaveBegun : List ℕ → Type 0
+    HaveBegun counts = (id : CallId) (call : ObjectCall) (k : ℕ) → IsTaken counts id → slice_get history k ≡ Some (Begin id call) → k < count
+
+    passes_begun : {c d : Configuration M} {ids : List CallId} → Passes Effect history c ids d → HaveBegun d.counts → Passes Effect (take count history) c ids d × HaveBegun c.counts
+    passes_begun none_passed begun = (none_passed, begun)
+    passes_begun (one_passed {c} {d} {e} {id} {ids} s reads l) begun =
+        let rest = passes_begun l begun in
+        let grown = step_grows Effect history c d id s in
+        let own : IsTaken d.counts id = subst (λ (l : List ℕ). IsTaken l id) (sym s.counts) (taken_now c.counts id s.process s.number) in (
+          one_passed (step_begun c d id s (λ k at. rest.1 id s.call k own at)) (λ call before after reply begun effect. reads call before after reply (of_front Effect history are.whole count (Begin id call) begun) effect) rest.0,
+          λ other call k taken at. rest.1 other call k (grown other taken) at,
+        )
+
+    -- what leads from a start without calls to a configuration in the front has begun there
+    leads_begun : {c e : Configuration M} {ids : List CallId} → Leads Effect (take count history) c ids e → HaveBegun c.counts → HaveBegun e.counts
+    leads_begun none begun = begun
+    leads_begun (more {c} {d} {e} {id} {ids} s l) begun =
+        leads_begun l
+        (λ other call k taken at. elim (taken_back c.counts id s.process s.number other (subst (λ (l : List ℕ). IsTaken l other) s.counts taken)) [
+          | inl old ↦ begun other call k old at
+          | inr same ↦
+              let p = place_of (take count history) (Begin id s.call) s.begun in
+              let t = place_take count history p.0 (Begin id s.call) p.1 in
+              let once = one_begin history are.whole id k p.0 call s.call (subst (λ (i : CallId). slice_get history k ≡ Some (Begin i call)) (sym same) at) t.0 in
+              let early = t.1 in
+              omega (arith, once, early)
+        ])
+
+    so_front : (to : Configuration M) (before : M) (next : CallId) (call : ObjectCall) → IsSo Effect history to before next call → IsSo Effect (take count history) to before next call
+    so_front to before next call so = elim so [
+      | inl does ↦ inl does
+      | inr reads ↦ inr (
+        (λ other start after reply begun effect. reads.0 other start after reply (of_front Effect history are.whole count (Begin next other) begun) effect),
+        elim reads.1 [
+          | inl opened ↦ inl (open_front next opened)
+          | inr differs ↦
+              let k = place_of history (End next differs.reply) differs.ended in
+              elim (cases_lt k.0 count) [
+                | inl lt ↦ inr (record { reply = differs.reply; ended = in_front Effect history are.whole count (End next differs.reply) k.0 k.1 lt; other = differs.other })
+                | inr ge ↦ inl (λ reply ended.
+                    let j = place_of (take count history) (End next reply) ended in
+                    let t = place_take count history j.0 (End next reply) j.1 in
+                    let once = one_end history are.whole next j.0 k.0 reply differs.reply t.0 k.1 in
+                    let early = t.1 in
+                    omega (arith, once, early, ge))
+              ]
+        ],
+      )
+    ]
+
+    -- a configuration that stands for another one does so in the front
+    standing_front : (c to : Configuration M) → (h : IsStoodFor Effect history found c to) → IsStoodFor Effect (take count history) found c to × HaveBegun to.counts
+    standing_front c to stood_for =
+        let first = stood_for.first in
+        let stands = stood_for.stands in
+        let in_found = contains_at found stands.place first stands.at in
+        let step = to_front first stood_for.last stood_for.id in_found stood_for.step in
+        let reached = reached_front first in_found in
+        let begun : HaveBegun stood_for.last.counts = leads_begun (leads_push Effect (take count history) reached.1 step) (λ id call k taken at. absurd (nothing id taken)) in (
+          record {
+            first = first;
+            stands = stands;
+            id = stood_for.id;
+            last = stood_for.last;
+            step = step;
+            counts = stood_for.counts;
+            so = λ next call may. so_front to stood_for.last.state next call
+                (stood_for.so next call (record {
+                  begun = of_front Effect history are.whole count (Begin next call) may.begun;
+                  process = may.process;
+                  number = may.number;
+                  earlier = λ a bef. may.earlier a (begun_before_front Effect history are.whole count next call may.begun a bef);
+                }));
+          },
+          subst HaveBegun stood_for.counts begun,
+        )
+
     -- calls that only read lead in the front where they lead among all events
-    met_front : (d : Configuration M) → IsMet Effect history found d → IsMet Effect (take count history) found d
-    met_front d met =
-        let u = undone met.1 met.3 in
-        (met.0, met.1, (passes_front Effect history are.whole count u.0 u.1 u.2 u.3 u.4 met.2 u.5).0, met.3)
+    met_front : (c d : Configuration M) → IsMet Effect history found c d → IsMet Effect (take count history) found c d
+    met_front c d met = elim met.3 [
+      | inl there ↦
+          let u = undone met.1 there in
+          (met.0, met.1, (passes_front Effect history are.whole count u.0 u.1 u.2 u.3 u.4 met.2 u.5).0, inl there)
+      | inr stood_for ↦
+          let front = standing_front c met.1 stood_for in
+          (met.0, met.1, (passes_begun met.2 front.1).0, inr front.0)
+    ]
 
     answered_front : (c d : Configuration M) (id : CallId) → Contains found c → EndsBefore rows c.counts count → IsStep Effect (take count history) c id d → IsAnswered Effect history found c id d → IsAnswered Effect (take count history) found c id d
     answered_front c d id in_found before s answered =
         elim answered [
-          | inl seen ↦ inl (met_front d seen)
+          | inl seen ↦ inl (met_front c d seen)
           | inr rules ↦ elim rules [
             | inl forced ↦ inr (inl (record {
               id = forced.id;
               to = forced.to;
               step = to_front c forced.to forced.id in_found forced.step;
               silent = silent_front Effect history are.whole count forced.id (ends_early c forced.to forced.id history before forced.step) forced.silent;
-              there = met_front forced.to forced.there;
+              there = met_front c forced.to forced.there;
             }))
             | inr others ↦ inr (inr (elim others [
               | inl behind ↦ inl (behind_front c d id in_found before s behind)
@@ -341,7 +441,7 @@ module _ {State M : Type 0} (meaning : State → M) (Effect : ObjectCall → M �
     pub search_of_front : (rows : Rows) → AreRows history processes rows → (count : ℕ) → farthest < count → count ≤ length history → (frames : List Frame) → AreFramed history rows (map (λ f. f.counts.items) keys) count frames →
         IsSearch Effect (take count history) processes (IsLed Effect (take count history) false (start_at processes opening)) (start_at processes opening) (map (found_in meaning) keys) frames
     search_of_front rows are count less within frames framed =
-        search_front Effect history processes rows are count (start_at processes opening) (map (found_in meaning) keys) h farthest far_found less within frames
+        search_front Effect history processes rows are count (start_at processes opening) (none_taken processes) (map (found_in meaning) keys) h farthest far_found less within frames
         (subst (λ (l : List (List ℕ)). AreFramed history rows l count frames) (sym (counts_kept meaning keys)) framed)
 
 module _ (history : List (Event ObjectCall Reply)) where

@@ -1,6 +1,7 @@
 -- What is kept of the configurations that were found, by their words.
 use Rattle.std.proofs.Common.{◌≡◌, refl, sym, ap, ◌∙◌, subst, ℕ, ◌<◌, suc, Bool, true, false, ◌||◌, ◌&&◌, List, [], ◌∷◌, ◌++◌, get_or, map, Option, option_map, Some, None, arith, inl, inr, if◌then◌else◌}
 use Rattle.std.proofs.Math.Dec.{eqb}
+use Rattle.std.proofs.lemmas.Bool.{cases_lt}
 use Rattle.std.proofs.lemmas.Bool.Decides.{Decides-eqb}
 use Rattle.std.proofs.lemmas.Slice.Eq.{slice_eq-Decides}
 use Rattle.std.specs.Cmp.Lexicographic.{pointwise}
@@ -79,24 +80,38 @@ module _ {State Meaning : Type 0} (meaning : State → Meaning) (words_of : Mean
             (ap Some (sym (same_view x y is (worded y (contains_at (y ∷ keys) 0 y refl)) parts.0 parts.1)))
         by false e later = Contains-append_right (found_in meaning y ∷ []) (map (found_in meaning) keys) (found_in meaning x) (later e)
 
+    module _ (alike : (a b : Found State) → a.counts.items ≡ b.counts.items → a.words.items ≡ b.words.items → eq a b ≡ true) (keys : List (Found State)) (worded : AreWordedKeys keys) (distinct : IsDistinct eq keys) where
+      two_apart : (i j : ℕ) (a b : Found State) → i < j → slice_get keys i ≡ Some a → slice_get keys j ≡ Some b → found_in meaning a ≡ found_in meaning b → ⊥
+      two_apart i j a b lt at_a at_b same =
+          let inside = slice_get_within keys j b at_b in
+          let differ = apart_from_distinct eq keys i j a distinct lt inside in
+          let a_is = get_or_from_slice_get keys i a a at_a in
+          let b_is = get_or_from_slice_get keys j b a at_b in
+          let counts : a.counts.items ≡ b.counts.items = ap (λ (c : Configuration Meaning). c.counts) same in
+          let states : meaning a.state ≡ meaning b.state = ap (λ (c : Configuration Meaning). c.state) same in
+          let words : a.words.items ≡ b.words.items = worded a (contains_at keys i a at_a) ∙ ap words_of states ∙ sym (worded b (contains_at keys j b at_b)) in
+          let equal = alike a b counts words in
+          let e : eq a b ≡ false = ap (λ (x : Found State). eq x b) (sym a_is) ∙ ap (λ (x : Found State). eq (get_or keys i a) x) (sym b_is) ∙ differ in
+          absurd (cc)
+
+      -- what was found stands at one place
+      pub found_once : (i j : ℕ) (c : Configuration Meaning) → slice_get (map (found_in meaning) keys) i ≡ Some c → slice_get (map (found_in meaning) keys) j ≡ Some c → i ≡ j
+      found_once i j c at_i at_j =
+          let a = mapped_some (found_in meaning) (slice_get keys i) c (sym (slice_get-map (found_in meaning) keys i) ∙ at_i) in
+          let b = mapped_some (found_in meaning) (slice_get keys j) c (sym (slice_get-map (found_in meaning) keys j) ∙ at_j) in
+          elim (cases_lt i j) [
+            | inl lt ↦ absurd (two_apart i j a.0 b.0 lt a.1 b.1 (a.2 ∙ sym b.2))
+            | inr ge ↦ elim (cases_lt j i) [
+              | inl lt ↦ absurd (two_apart j i b.0 a.0 lt b.1 a.1 (b.2 ∙ sym a.2))
+              | inr le ↦ omega (arith, ge, le)
+            ]
+          ]
+
     -- no two that were found are the same
     pub found_apart : ((a b : Found State) → a.counts.items ≡ b.counts.items → a.words.items ≡ b.words.items → eq a b ≡ true) →
         (keys : List (Found State)) → AreWordedKeys keys → IsDistinct eq keys → AreApart (map (found_in meaning) keys)
-    found_apart alike keys worded distinct = apart_at keys two
+    found_apart alike keys worded distinct = apart_at keys (two_apart alike keys worded distinct)
       where
-        two : (i j : ℕ) (a b : Found State) → i < j → slice_get keys i ≡ Some a → slice_get keys j ≡ Some b → found_in meaning a ≡ found_in meaning b → ⊥
-        two i j a b lt at_a at_b same =
-            let inside = slice_get_within keys j b at_b in
-            let differ = apart_from_distinct eq keys i j a distinct lt inside in
-            let a_is = get_or_from_slice_get keys i a a at_a in
-            let b_is = get_or_from_slice_get keys j b a at_b in
-            let counts : a.counts.items ≡ b.counts.items = ap (λ (c : Configuration Meaning). c.counts) same in
-            let states : meaning a.state ≡ meaning b.state = ap (λ (c : Configuration Meaning). c.state) same in
-            let words : a.words.items ≡ b.words.items = worded a (contains_at keys i a at_a) ∙ ap words_of states ∙ sym (worded b (contains_at keys j b at_b)) in
-            let equal = alike a b counts words in
-            let e : eq a b ≡ false = ap (λ (x : Found State). eq x b) (sym a_is) ∙ ap (λ (x : Found State). eq (get_or keys i a) x) (sym b_is) ∙ differ in
-            absurd (cc)
-
         apart_at : (ks : List (Found State)) → ((i j : ℕ) (a b : Found State) → i < j → slice_get ks i ≡ Some a → slice_get ks j ≡ Some b → found_in meaning a ≡ found_in meaning b → ⊥) → AreApart (map (found_in meaning) ks)
         apart_at [] differ = tt
         apart_at (x ∷ ks) differ = (

@@ -21,6 +21,7 @@ pub mod Remembering
 pub mod Rowing
 pub mod Searching
 pub mod Soundness
+pub mod StandingFor
 pub mod Stepping
 pub mod Taken
 pub mod Turning

@@ -18,7 +18,7 @@ use Rattle.wf_order.specs.Steps.{Configuration, IsLimit, IsStep}
 use Rattle.wf_order.proofs.Limits.{limit_earlier}
 
 module _ (history : List (Event ObjectCall Reply)) (processes : ℕ) (rows : Rows) (are : AreRows history processes rows) where
-  ended_in : (p k : ℕ) (e : Ended) → slice_get (row_of (ended_rows rows) p) k ≡ Some e → Contains history (End (call_at p k) (seen_reply e.reply))
+  pub ended_in : (p k : ℕ) (e : Ended) → slice_get (row_of (ended_rows rows) p) k ≡ Some e → Contains history (End (call_at p k) (seen_reply e.reply))
   ended_in p k e at = contains_at history e.place (End (call_at p k) (seen_reply e.reply)) (are.ended p k e at)
 
   -- what has no reply in the rows is open

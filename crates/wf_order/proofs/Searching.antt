@@ -20,6 +20,7 @@ use Rattle.wf_order.specs.Search.{ids_of, IsLed, IsSearch, LeadsOn}
 use Rattle.wf_order.specs.Turns.{BeginsFrom}
 use Rattle.wf_order.proofs.Exchange.{IsHopeful, hope_more, silent_first, alike_first, passes_first, without_idle}
 use Rattle.wf_order.proofs.Soundness.{sound}
+use Rattle.wf_order.proofs.StandingFor.{standing_hope, stands_grown}
 use Rattle.wf_order.proofs.Completeness.{complete, none_taken}
 
 -- what stands in the one list or in the other
@@ -65,6 +66,11 @@ module _ {State Call Reply : Type 0} (Effect : Call → State → State → Repl
   led_on true start ids c d id l s = leads_push l s
   led_on false start ids c d id l s = (l.0 ++ id ∷ [], leads_push l.1 s)
 
+  first_of : (n : ℕ) {c e : Configuration State} {ids : List CallId} → Leads Effect history c ids e → length ids ≡ suc n → IsDone Effect history e →
+      (id : CallId) × (d : Configuration State) × IsStep Effect history c id d × IsHopeful Effect history n d
+  first_of n none size done = absurd (cc)
+  first_of n (more {c} {d} {e} {id} {ids} s l) size done = (id, d, s, record { ids = ids; last = e; path = l; done = done; size = omega (arith, size) })
+
   -- where each step from what was found is answered, and nothing that was found is done, steps lead to nothing that is done
   module _ (whole : IsHistory history)
       (determined : (call : Call) (before after other : State) (reply answer : Reply) → Effect call before after reply → Effect call before other answer → (after ≡ other) × (reply ≡ answer))
@@ -73,57 +79,75 @@ module _ {State Call Reply : Type 0} (Effect : Call → State → State → Repl
     abbrev AreHopeless : ℕ → Type 0
     AreHopeless n = (m : ℕ) → m ≤ n → (c : Configuration State) → Contains found c → IsHopeful Effect history m c → ⊥
 
-    -- what leads by calls that only read to what was found
-    met_hopeless : (n : ℕ) → AreHopeless n → (d : Configuration State) → IsMet Effect history found d → IsHopeful Effect history n d → ⊥
-    met_hopeless n shorter d met h =
-        let r = passes_first Effect history n met.2 h in
-        shorter r.0 r.1 met.1 met.3 r.2
+    -- the same of what stands before a place
+    abbrev AreHopelessBefore : ℕ → ℕ → Type 0
+    AreHopelessBefore n place = (m : ℕ) → m ≤ n → (c : Configuration State) (k : ℕ) → slice_get found k ≡ Some c → k < place → IsHopeful Effect history m c → ⊥
 
-    by_cases : (n : ℕ) → AreHopeless n → (c d : Configuration State) (id : CallId) → Contains found c → IsStep Effect history c id d → IsHopeful Effect history n d →
-        ((behind : IsBehind Effect history c id) → IsHopeful Effect history n behind.to → ⊥) → ⊥
-    by_cases n shorter c d id in_found s h go =
-        elim (closed c d id in_found s) [
-          | inl seen ↦ met_hopeless n shorter d seen h
-          | inr rules ↦ elim rules [
-            | inl forced ↦ met_hopeless n shorter forced.to forced.there (silent_first Effect history forced.id forced.silent n c forced.to (hope_more Effect history n c d id s h) forced.step)
-            | inr others ↦ elim others [
-              | inl behind ↦ go behind (alike_first Effect history whole determined n c behind.to d id s h behind.sooner behind.call behind.step behind.same behind.own behind.first)
-              | inr idle ↦ shorter n (omega arith) c in_found (without_idle Effect history whole n c d id s idle h)
+    module _ (n : ℕ) (shorter : AreHopeless n) (c : Configuration State) (place : ℕ) (at : slice_get found place ≡ Some c) (before : AreHopelessBefore (suc n) place) where
+      -- what leads by calls that only read to what was found, or is stood for
+      met_hopeless : (d : Configuration State) → IsMet Effect history found c d → IsHopeful Effect history n d → ⊥
+      met_hopeless d met h =
+          let r = passes_first Effect history n met.2 h in
+          elim met.3 [
+            | inl there ↦ shorter r.0 r.1 met.1 there r.2
+            | inr stood_for ↦
+                let first = standing_hope Effect history whole found c met.1 stood_for r.0 r.2 in
+                let size = first.1 in
+                let le = r.1 in
+                let stands = stood_for.stands in
+                before first.0 (omega (arith, size, le)) stood_for.first stands.place stands.at (stands.before place at) first.2
+          ]
+
+      in_found : Contains found c
+      in_found = contains_at found place c at
+
+      by_cases : (d : Configuration State) (id : CallId) → IsStep Effect history c id d → IsHopeful Effect history n d →
+          ((behind : IsBehind Effect history c id) → IsHopeful Effect history n behind.to → ⊥) → ⊥
+      by_cases d id s h go =
+          elim (closed c d id in_found s) [
+            | inl seen ↦ met_hopeless d seen h
+            | inr rules ↦ elim rules [
+              | inl forced ↦ met_hopeless forced.to forced.there (silent_first Effect history forced.id forced.silent n c forced.to (hope_more Effect history n c d id s h) forced.step)
+              | inr others ↦ elim others [
+                | inl behind ↦ go behind (alike_first Effect history whole determined n c behind.to d id s h behind.sooner behind.call behind.step behind.same behind.own behind.first)
+                | inr idle ↦ shorter n (omega arith) c in_found (without_idle Effect history whole n c d id s idle h)
+              ]
             ]
           ]
-        ]
 
-    -- by the rank of the call
-    among : (n : ℕ) → AreHopeless n → (bound : ℕ) (c d : Configuration State) (id : CallId) → Contains found c → IsStep Effect history c id d → IsHopeful Effect history n d →
-        (rank : ℕ) → IsRank history id rank → rank < bound → ⊥
-    among n shorter zero c d id in_found s h rank is lt = omega arith
-    among n shorter (suc bound) c d id in_found s h rank is lt =
-        by_cases n shorter c d id in_found s h
-        (λ behind hope. let low = lower history behind.sooner id behind.first rank is in
-        among n shorter bound c behind.to behind.sooner in_found behind.step hope low.0 low.1 (let less = low.2 in omega (arith, lt, less)))
+      -- by the rank of the call
+      among : (bound : ℕ) (d : Configuration State) (id : CallId) → IsStep Effect history c id d → IsHopeful Effect history n d → (rank : ℕ) → IsRank history id rank → rank < bound → ⊥
+      among zero d id s h rank is lt = omega arith
+      among (suc bound) d id s h rank is lt =
+          by_cases d id s h
+          (λ behind hope. let low = lower history behind.sooner id behind.first rank is in
+          among bound behind.to behind.sooner behind.step hope low.0 low.1 (let less = low.2 in omega (arith, lt, less)))
+
+      one_hopeless : IsHopeful Effect history (suc n) c → ⊥
+      one_hopeless h =
+          let r = first_of n h.path h.size h.done in
+          by_cases r.1 r.0 r.2 r.3
+          (λ behind hope. let own = ranked history behind.sooner r.0 behind.first in
+          among (suc own.0) behind.to behind.sooner behind.step hope own.0 own.1 (omega arith))
 
     at_end : {c e : Configuration State} {ids : List CallId} → Leads Effect history c ids e → length ids ≡ 0 → Contains found c → IsDone Effect history e → ⊥
     at_end (none {c}) size in_found done = not_done c in_found done
     at_end (more s l) size in_found done = absurd (cc)
 
-    first_of : (n : ℕ) {c e : Configuration State} {ids : List CallId} → Leads Effect history c ids e → length ids ≡ suc n → IsDone Effect history e →
-        (id : CallId) × (d : Configuration State) × IsStep Effect history c id d × IsHopeful Effect history n d
-    first_of n none size done = absurd (cc)
-    first_of n (more {c} {d} {e} {id} {ids} s l) size done = (id, d, s, record { ids = ids; last = e; path = l; done = done; size = omega (arith, size) })
-
-    one_hopeless : (n : ℕ) → AreHopeless n → (c : Configuration State) → Contains found c → IsHopeful Effect history (suc n) c → ⊥
-    one_hopeless n shorter c in_found h =
-        let r = first_of n h.path h.size h.done in
-        by_cases n shorter c r.1 r.0 in_found r.2 r.3
-        (λ behind hope. let own = ranked history behind.sooner r.0 behind.first in
-        among n shorter (suc own.0) c behind.to behind.sooner in_found behind.step hope own.0 own.1 (omega arith))
+    -- by its place among what was found
+    placed : (n : ℕ) → AreHopeless n → (bound : ℕ) → AreHopelessBefore (suc n) bound
+    placed n shorter zero m le c k at lt h = omega (arith, lt)
+    placed n shorter (suc bound) zero le c k at lt h = at_end h.path h.size (contains_at found k c at) h.done
+    placed n shorter (suc bound) (suc m) le c k at lt h =
+        one_hopeless m (λ x less d there hope. shorter x (omega (arith, le, less)) d there hope) c k at
+        (λ x less d other there early hope. placed n shorter bound x (omega (arith, le, less)) d other there (omega (arith, lt, early)) hope) h
 
     all_hopeless : (n : ℕ) → AreHopeless n
     all_hopeless zero zero le c in_found h = at_end h.path h.size in_found h.done
     all_hopeless zero (suc m) le c in_found h = absurd (omega (arith, le))
-    all_hopeless (suc n) zero le c in_found h = at_end h.path h.size in_found h.done
-    all_hopeless (suc n) (suc m) le c in_found h =
-        one_hopeless m (λ k less x there hope. all_hopeless n k (omega (arith, le, less)) x there hope) c in_found h
+    all_hopeless (suc n) m le c in_found h =
+        let k = place_of found c in_found in
+        placed n (all_hopeless n) (suc k.0) m le c k.0 k.1 (omega arith) h
 
     pub hopeless : (n : ℕ) (c : Configuration State) → Contains found c → IsHopeful Effect history n c → ⊥
     hopeless n c in_found h = all_hopeless n n (omega arith) c in_found h
@@ -131,16 +155,24 @@ module _ {State Call Reply : Type 0} (Effect : Call → State → State → Repl
 module _ {State Call Reply : Type 0} (Effect : Call → State → State → Reply → Type 0) (history : List (Event Call Reply)) (processes : ℕ)
     (Led : List CallId → Configuration State → Type 0) (leads_on : LeadsOn Effect history Led) (start : Configuration State) where
   -- what was met stays so, where more is found
-  met_grown : (found later : List (Configuration State)) (d : Configuration State) → IsMet Effect history found d → IsMet Effect history (found ++ later) d
-  met_grown found later d h = (h.0, h.1, h.2, Contains-append_left found later h.1 h.3)
+  met_grown : (found later : List (Configuration State)) (c d : Configuration State) → IsMet Effect history found c d → IsMet Effect history (found ++ later) c d
+  met_grown found later c d h = (
+    h.0,
+    h.1,
+    h.2,
+    elim h.3 [
+      | inl there ↦ inl (Contains-append_left found later h.1 there)
+      | inr other ↦ inr (record { first = other.first; stands = stands_grown found later other.first c other.stands; id = other.id; last = other.last; step = other.step; counts = other.counts; so = other.so })
+    ],
+  )
 
   -- what was answered stays so, where more is found
   pub answered_grown : (found later : List (Configuration State)) (c : Configuration State) (id : CallId) (e : Configuration State) → IsAnswered Effect history found c id e → IsAnswered Effect history (found ++ later) c id e
   answered_grown found later c id e h =
       elim h [
-        | inl seen ↦ inl (met_grown found later e seen)
+        | inl seen ↦ inl (met_grown found later c e seen)
         | inr rules ↦ elim rules [
-          | inl forced ↦ inr (inl (record { id = forced.id; to = forced.to; step = forced.step; silent = forced.silent; there = met_grown found later forced.to forced.there }))
+          | inl forced ↦ inr (inl (record { id = forced.id; to = forced.to; step = forced.step; silent = forced.silent; there = met_grown found later c forced.to forced.there }))
           | inr others ↦ inr (inr others)
         ]
       ]

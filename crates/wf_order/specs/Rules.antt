@@ -46,6 +46,23 @@ pub record AreAlike {Call Reply : Type 0} (history : List (Event Call Reply)) (a
   pub own : HasBegun history b call
   pub first : ComesFirst history a b
 
+-- among what was found, the first one stands before each place of the other one
+pub record StandsBefore {State : Type 0} (found : List (Configuration State)) (first other : Configuration State) : Type 0 where
+  pub place : ℕ
+  pub at : slice_get found place ≡ Some first
+  pub before : (k : ℕ) → slice_get found k ≡ Some other → place < k
+
+-- the call is its process's next one, and all that ended before it began is taken
+pub record MayCome {Call Reply : Type 0} (history : List (Event Call Reply)) (counts : List ℕ) (id : CallId) (call : Call) : Type 0 where
+  pub begun : HasBegun history id call
+  pub process : id.process < length counts
+  pub number : id.number ≡ get_or counts id.process 0 + 1
+  pub earlier : (a : CallId) → Before history a id → IsTaken counts a
+
+-- made on the first state, a call does what it does when made on the second, and has the same reply
+abbrev pub DoesSo : {State Reply : Type 0} → (State → State → Reply → Type 0) → State → State → Type 0
+DoesSo {State} {Reply} Effect before behind = (after : State) (reply : Reply) → Effect behind after reply → Effect before after reply
+
 module _ {State Call Reply : Type 0} (Effect : Call → State → State → Reply → Type 0) (history : List (Event Call Reply)) where
   -- the call has ended, and wherever it has the reply that it has in the history, it leaves the state as it is
   pub record IsSilent (id : CallId) : Type 0 where
@@ -62,9 +79,34 @@ module _ {State Call Reply : Type 0} (Effect : Call → State → State → Repl
     none_passed : {c : Configuration State} → Passes c [] c
     one_passed : {c d e : Configuration State} {id : CallId} {ids : List CallId} → IsStep Effect history c id d → IsReading id → Passes d ids e → Passes c (id ∷ ids) e
 
-  -- by calls that only read the configuration leads to one that was found
-  abbrev pub IsMet : List (Configuration State) → Configuration State → Type 0
-  IsMet found d = (ids : List CallId) × (to : Configuration State) × Passes d ids to × Contains found to
+  -- the call has ended, with a reply that it does not have in the state
+  pub record HasOther (before : State) (id : CallId) (call : Call) : Type 0 where
+    pub reply : Reply
+    pub ended : Contains history (End id reply)
+    pub other : (after : State) → Effect call before after reply → ⊥
+
+  -- what may come next from the configuration comes from the state too; or it only reads, and does not end or has another reply here
+  abbrev pub IsSo : Configuration State → State → CallId → Call → Type 0
+  IsSo c before id call = DoesSo (Effect call) before c.state ⊎ (IsReading id × (IsOpen history id ⊎ HasOther c.state id call))
+
+  -- the calls of the process that may come next do
+  abbrev pub AreSo : Configuration State → State → ℕ → Type 0
+  AreSo c before process = (id : CallId) (call : Call) → id.process ≡ process → MayCome history c.counts id call → IsSo c before id call
+
+  -- Among what was found, a configuration stands before this one from which one more call takes as many calls as the other one has taken, and
+  -- whatever may come from the other one comes from there too. So it stands for the other one.
+  pub record IsStoodFor (found : List (Configuration State)) (c other : Configuration State) : Type 0 where
+    pub first : Configuration State
+    pub stands : StandsBefore found first c
+    pub id : CallId
+    pub last : Configuration State
+    pub step : IsStep Effect history first id last
+    pub counts : last.counts ≡ other.counts
+    pub so : (next : CallId) (call : Call) → MayCome history other.counts next call → IsSo other last.state next call
+
+  -- from a configuration calls that only read lead to one that was found, or that one stands for which was found before it
+  abbrev pub IsMet : List (Configuration State) → Configuration State → Configuration State → Type 0
+  IsMet found c d = (ids : List CallId) × (to : Configuration State) × Passes d ids to × (Contains found to ⊎ IsStoodFor found c to)
 
   -- a silent call is next, and what it leads to was met
   pub record IsForced (found : List (Configuration State)) (c : Configuration State) : Type 0 where
@@ -72,7 +114,7 @@ module _ {State Call Reply : Type 0} (Effect : Call → State → State → Repl
     pub to : Configuration State
     pub step : IsStep Effect history c id to
     pub silent : IsSilent id
-    pub there : IsMet found to
+    pub there : IsMet found c to
 
   -- another process's equal call, which comes first, may be taken as well
   pub record IsBehind (c : Configuration State) (id : CallId) : Type 0 where
@@ -101,7 +143,7 @@ module _ {State Call Reply : Type 0} (Effect : Call → State → State → Repl
 
   -- the step was tried, or need not be
   abbrev pub IsAnswered : List (Configuration State) → Configuration State → CallId → Configuration State → Type 0
-  IsAnswered found c id d = IsMet found d ⊎ (IsForced found c ⊎ (IsBehind c id ⊎ IsIdle c id d))
+  IsAnswered found c id d = IsMet found c d ⊎ (IsForced found c ⊎ (IsBehind c id ⊎ IsIdle c id d))
 
   -- An open call of the one process leads from the configuration to the state. What the other process may do next behind it leads to
   -- the same state without it, or does not end either, and leaves the state as it is.

@@ -47,6 +47,10 @@ IsAt history rows here = AreRows history (length here.found.now.counts.items) ro
 abbrev pub all_counts : {State S : Type 0} → HashSet (Rust.Found State) S → List (List ℕ)
 all_counts seen = map (λ f. f.counts.items) seen.keys
 
+-- the item stands before this place
+abbrev pub IsBeforePlace : {A : Type 0} → List A → ℕ → A → Type 0
+IsBeforePlace items place item = (at : ℕ) × (slice_get items at ≡ Some item) × (at < place)
+
 -- there are the old ones, and there may be more behind them
 abbrev pub IsGrown : {A : Type 0} → List A → List A → Type 0
 IsGrown {A} old new = (more : List A) × (new ≡ old ++ more)

@@ -135,9 +135,11 @@ fn is_dropped<O: Object>(
     };
     let place = *count as usize;
     let taken = here.found.counts.get(next.process).copied().unwrap_or(0);
-    let looks = task.hints.looks_at(next.process, taken as usize);
     // Equal calls with the same reply look alike.
-    if task.hints.looks_at(process, place) == looks {
+    if let Some(own) = task.hints.at(next.process, taken as usize)
+        && let Some(hint) = task.hints.at(process, place)
+        && hint.looks == own.looks
+    {
         let first = Spot { process, place };
         if is_sooner(task.rows, here.limit, first, next.begun, end) {
             return true;

@@ -8,6 +8,7 @@ ghost use Rattle.wf_order.specs.Rules.{AreBehind};
 ghost use Rattle.wf_order.specs.Search.{found_in, IsAt, IsWorded};
 ghost use Rattle.wf_order.specs.Turns.{IsNextOf};
 
+use crate::hints::Wanted;
 use crate::made_calls::MadeCalls;
 use crate::next_call::{Next, next_of};
 use crate::searched_object::Object;
@@ -41,7 +42,7 @@ fn is_behind_any<'a, O: Object>(
     };
     let mut from = 0;
     for _ in 0..counts.len() {
-        let process = task.hints.first_call(counts, from, hint.call);
+        let process = task.hints.first(counts, from, Wanted::Call(hint.call));
         let Some(count) = counts.get(process) else {
             return Ok(false);
         };

@@ -107,19 +107,6 @@ fn front_by_found<O: Object>(
     Ok(front)
 }
 
-/// A place between two others: so far behind the first one, but no farther than half of the way.
-fn place_between(legal: usize, illegal: usize, step: usize) -> usize
-    requires wide { 1 < illegal - legal }
-    ensures lower { legal < result }
-    ensures upper { result < illegal }
-{
-    let half = (illegal - legal) / 2;
-    if step == 0 || step >= half {
-        return legal + half;
-    }
-    legal + step
-}
-
 /// Of what is between a beginning that has a legal order and one that has none, the part before a place or the one behind it, by a
 /// search of its own.
 fn halved_by_search<O: Object>(
@@ -194,7 +181,13 @@ fn last_legal<O: Object>(
     let mut illegal = question.events.len();
     let mut step: usize = 1;
     while illegal - legal > 1 {
-        let middle = place_between(legal, illegal, step);
+        // So far behind the first place, but no farther than half of the way.
+        let half = (illegal - legal) / 2;
+        let middle = if step == 0 || step >= half {
+            legal + half
+        } else {
+            legal + step
+        };
         let Some((more, less)) = halved(question, seen, legal, illegal, middle)? else {
             return Ok(None);
         };

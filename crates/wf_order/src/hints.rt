@@ -15,7 +15,18 @@ pub(crate) struct Hint {
     /// A number that equal calls have in common.
     pub call: u32,
     /// A number that equal calls with the same reply have in common, and those that have not ended.
-    looks: u32,
+    pub looks: u32,
+}
+
+/// What is looked for among the next calls.
+#[derive(Clone, Copy)]
+pub(crate) enum Wanted {
+    /// A silent one that begins before this limit.
+    Quiet(usize),
+    /// One with this number of calls.
+    Call(u32),
+    /// One with this number of calls and replies.
+    Like(u32),
 }
 
 /// The hints of each process, by the place of a call in the row. And up to which place a silent call may be left where the first end that is
@@ -52,44 +63,17 @@ impl Hints {
         self.rows.get(process)?.get(place).copied()
     }
 
-    /// A number that equal calls with the same reply have in common, of a call by its process and its place in the row.
-    pub(crate) fn looks_at(&self, process: usize, place: usize) -> u32 {
-        match self.at(process, place) {
-            Some(hint) => hint.looks,
-            None => 0,
-        }
-    }
-
-    /// The first process, of this one and those behind it, whose next call is silent and begins before the limit; where there is none, one
-    /// behind all of them.
-    pub(crate) fn first_quiet(&self, counts: &[u32], from: usize, limit: usize) -> usize {
+    /// The first process, of this one and those behind it, whose next call is wanted; where there is none, one behind all of them.
+    #[inline(always)]
+    pub(crate) fn first(&self, counts: &[u32], from: usize, wanted: Wanted) -> usize {
         for process in from..counts.len() {
             if let Some(hint) = self.at(process, counts[process] as usize) {
-                if (hint.quiet as usize) < limit {
-                    return process;
-                }
-            }
-        }
-        counts.len()
-    }
-
-    /// The same of a next call with this number of calls.
-    pub(crate) fn first_call(&self, counts: &[u32], from: usize, call: u32) -> usize {
-        for process in from..counts.len() {
-            if let Some(hint) = self.at(process, counts[process] as usize) {
-                if hint.call == call {
-                    return process;
-                }
-            }
-        }
-        counts.len()
-    }
-
-    /// The same of a next call with this number of calls and replies.
-    pub(crate) fn first_like(&self, counts: &[u32], from: usize, looks: u32) -> usize {
-        for process in from..counts.len() {
-            if let Some(hint) = self.at(process, counts[process] as usize) {
-                if hint.looks == looks {
+                let is_wanted = match wanted {
+                    Wanted::Quiet(limit) => (hint.quiet as usize) < limit,
+                    Wanted::Call(call) => hint.call == call,
+                    Wanted::Like(looks) => hint.looks == looks,
+                };
+                if is_wanted {
                     return process;
                 }
             }
@@ -111,15 +95,14 @@ fn hint_row<O: Object>(
         let number = number_of_call(call.call);
         let mut hint = Hint {
             quiet: u32::MAX,
-            call: spread(number),
+            call: (number.wrapping_mul(SPREAD) >> 32) as u32,
             looks: 0,
         };
         if let Some(end) = ended.get(place) {
-            hint.looks = spread(
-                number
-                    .wrapping_mul(31)
-                    .wrapping_add(number_of_reply(end.reply)),
-            );
+            let both = number
+                .wrapping_mul(31)
+                .wrapping_add(number_of_reply(end.reply));
+            hint.looks = (both.wrapping_mul(SPREAD) >> 32) as u32;
             if object.is_silent(call.call, end.reply) {
                 hint.quiet = u32::try_from(call.place).unwrap_or(u32::MAX);
                 others |= !object.is_reader(call.call);
@@ -148,9 +131,4 @@ fn number_of_reply(reply: SeenReply) -> u64 {
         },
         SeenReply::Trap(_) => 2,
     }
-}
-
-/// The upper bits of a number that is spread over them.
-fn spread(number: u64) -> u32 {
-    (number.wrapping_mul(SPREAD) >> 32) as u32
 }

@@ -21,6 +21,7 @@ mod search;
 pub mod searched_object;
 mod seen;
 mod sooner;
+mod standing;
 mod step;
 mod without;
 

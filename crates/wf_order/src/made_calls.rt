@@ -4,7 +4,7 @@ ghost use Rattle.std.specs.Prelude.{◌≡◌, ◌↔◌, ◌<◌, ℕ, Some, No
 ghost use Rattle.ob_interface.specs.View.{reply_of};
 ghost use Rattle.wf_history.specs.View.{seen_call, seen_reply};
 ghost use Rattle.wf_order.specs.MadeCalls.{AreMade, HasMade, IsAsked, StandsAt, IsOtherwise};
-ghost use Rattle.wf_order.specs.Rules.{IsOutcome, IsSameOutcome};
+ghost use Rattle.wf_order.specs.Rules.{DoesSo, IsOutcome, IsSameOutcome};
 ghost use Rattle.wf_order.specs.Search.{IsWorded};
 
 use crate::searched_object::{Object, Words};
@@ -16,7 +16,7 @@ use ob_interface::scalar::Scalar;
 use smallvec::SmallVec;
 use std::alloc::{AllocError, Global};
 use wf_history::{SeenCall, SeenReply};
-use wf_lookup::compared_replies::{is_same_call, is_same_reply};
+use wf_lookup::compared_replies::{are_equal_replies, is_same_call, is_same_reply};
 
 /// How many calls are remembered at most.
 const ROWS: usize = 256;
@@ -24,7 +24,8 @@ const ROWS: usize = 256;
 /// An odd number that spreads a number over its upper bits.
 pub(crate) const SPREAD: u64 = 0x9E37_79B9_7F4A_7C15;
 
-/// So many calls that write are looked up in vain, beyond those that are found, before none is looked up any more.
+/// So many calls are looked up in vain, beyond those that are found, before none is looked up any more: of those that may write, and of those that are
+/// asked for their reply alone.
 const VAIN_CALLS: usize = 256;
 
 /// What a call made of the state with these words, and its reply.
@@ -40,8 +41,10 @@ pub(crate) struct MadeCall<'a, S> {
 #[derive(Drop)]
 pub(crate) struct MadeCalls<'a, S> {
     pub rows: Vec<Option<MadeCall<'a, S>>>,
-    /// How many calls that write may still be looked up in vain.
+    /// How many calls that may write may still be looked up in vain.
     left: usize,
+    /// The same of calls that are asked for their reply.
+    asked: usize,
 }
 
 /// A scalar as a number.
@@ -56,17 +59,13 @@ pub(crate) fn number_of(scalar: Scalar) -> u64 {
 /// The words of a state as a number.
 fn number_of_words(words: &[u64]) -> u64 {
     let mut number = 0_u64;
+    if let [word] = words {
+        return *word;
+    }
     for word in words {
-        number = joined(number, *word);
+        number = number.wrapping_mul(31).wrapping_add(*word);
     }
     number
-}
-
-/// A number of two, so that small ones that differ a little differ in their upper bits.
-#[inline(always)]
-fn joined(number: u64, other: u64) -> u64 {
-    let spread = number.wrapping_mul(SPREAD);
-    (spread ^ (spread >> 29)).wrapping_add(other)
 }
 
 /// The row of a call on the state with these words.
@@ -74,11 +73,13 @@ fn joined(number: u64, other: u64) -> u64 {
 fn row_of(words: &[u64], call: SeenCall) -> usize
     ensures { result < 256 }
 {
-    let mut number = joined(number_of_words(words), call.proc as u64);
+    let mut number = number_of_words(words)
+        .wrapping_mul(31)
+        .wrapping_add(call.proc as u64);
     // Mostly there are no arguments.
     if !call.args.is_empty() {
         for scalar in call.args.lent().as_slice() {
-            number = joined(number, number_of(*scalar));
+            number = number.wrapping_mul(31).wrapping_add(number_of(*scalar));
         }
     }
     (number.wrapping_mul(SPREAD) >> 56) as usize % ROWS
@@ -95,6 +96,7 @@ pub(crate) fn no_calls<'a, S: Drop>(alloc: Global) -> Result<MadeCalls<'a, S>, A
     Ok(MadeCalls {
         rows,
         left: VAIN_CALLS,
+        asked: VAIN_CALLS,
     })
 }
 
@@ -200,7 +202,15 @@ fn make_at<'a, O: Object>(
     Ok(())
 }
 
-/// Whether a call has this reply in a configuration's state.
+/// How many calls may still be looked up in vain behind one that was found or not.
+fn left_behind(left: usize, was_there: bool) -> usize {
+    if was_there {
+        return left.saturating_add(1);
+    }
+    left.saturating_sub(1)
+}
+
+/// Whether a call has this reply in a configuration's state. Where few such calls had been made, none is looked up.
 pub(crate) fn replies_so<'a, O: Object>(
     task: &Task<'_, 'a, O>,
     found: &Found<O::State>,
@@ -213,7 +223,14 @@ pub(crate) fn replies_so<'a, O: Object>(
     ensures made { OnOk result (AreMade O.meaning O.words_of (O.effect task.now.object.now) calls.new) }
     ensures so { IfOk result (IsAsked (O.effect task.now.object.now) (seen_call call.entry) (O.meaning found.now.state) (seen_reply reply.entry)) }
 {
-    let (row, _) = row_with(task, found, call, calls)?;
+    if calls.asked == 0 {
+        let to = task
+            .object
+            .outcome(task.alloc, &found.state, call, Some(reply))?;
+        return Ok(to.is_some());
+    }
+    let (row, was_there) = row_with(task, found, call, calls)?;
+    calls.asked = left_behind(calls.asked, was_there);
     let Some(made) = made_at(calls, row) else {
         unreachable!()
     };
@@ -229,6 +246,10 @@ pub(crate) fn replies_otherwise<S>(
 ) -> bool
     ensures { IsTrue result → IsOtherwise calls.now found.now.words.items (seen_call call.entry) (seen_reply reply.entry) }
 {
+    // What may write is not looked up any more.
+    if calls.left == 0 {
+        return false;
+    }
     let Some(made) = remembered(found, call, calls) else {
         return false;
     };
@@ -256,11 +277,7 @@ pub(crate) fn outcome<'a, O: Object>(
         return task.object.outcome(task.alloc, &found.state, call, known);
     }
     let (row, was_there) = row_with(task, found, call, calls)?;
-    calls.left = if was_there {
-        calls.left.saturating_add(1)
-    } else {
-        calls.left.saturating_sub(1)
-    };
+    calls.left = left_behind(calls.left, was_there);
     let Some(made) = made_at(calls, row) else {
         unreachable!()
     };
@@ -270,6 +287,35 @@ pub(crate) fn outcome<'a, O: Object>(
         }
     }
     Ok(Some(task.object.copy(task.alloc, &made.state)?))
+}
+
+/// Whether a call does the same on two configurations' states, and has the same reply.
+pub(crate) fn does_so<'a, O: Object>(
+    task: &Task<'_, 'a, O>,
+    here: &Found<O::State>,
+    behind: &Found<O::State>,
+    call: SeenCall<'a>,
+    calls: &mut MadeCalls<'a, O::State>,
+) -> Result<bool, NoMemory>
+    requires worded { IsWorded O.meaning O.words_of here.now }
+    requires behind { IsWorded O.meaning O.words_of behind.now }
+    requires made { AreMade O.meaning O.words_of (O.effect task.now.object.now) calls.old }
+    ensures made { OnOk result (AreMade O.meaning O.words_of (O.effect task.now.object.now) calls.new) }
+    ensures so { IfOk result (λ so. IsTrue so → DoesSo (O.effect task.now.object.now (seen_call call.entry)) (O.meaning here.now.state) (O.meaning behind.now.state)) }
+{
+    let _ = row_with(task, here, call, calls)?;
+    let _ = row_with(task, behind, call, calls)?;
+    // The second may have come to the row of the first.
+    let Some(made) = remembered(here, call, calls) else {
+        return Ok(false);
+    };
+    let Some(other) = remembered(behind, call, calls) else {
+        return Ok(false);
+    };
+    if !are_equal_replies(&made.reply, &other.reply) {
+        return Ok(false);
+    }
+    task.object.is_same(task.alloc, &made.state, &other.state)
 }
 
 /// A call, and its reply, if one is known.

@@ -8,6 +8,7 @@ ghost use Rattle.wf_order.specs.Rows.{AreRows};
 ghost use Rattle.wf_order.specs.Search.{found_in, HasNext, IsAt, IsPassed, IsReadingNext, IsWorded};
 ghost use Rattle.wf_order.specs.Steps.{IsLimit};
 
+use crate::hints::Wanted;
 use crate::made_calls::{MadeCalls, replies_so};
 use crate::rows::next_limit;
 use crate::search::Frame;
@@ -34,7 +35,7 @@ fn reader_at<'a, O: Object>(
     let counts = here.found.counts.as_slice();
     let mut from = from;
     for _ in 0..counts.len() {
-        let process = task.hints.first_quiet(counts, from, here.limit);
+        let process = task.hints.first(counts, from, Wanted::Quiet(here.limit));
         if process >= counts.len() {
             return Ok(None);
         }

@@ -19,6 +19,7 @@ use crate::passing::passed;
 use crate::rows::{limit_of, next_limit};
 use crate::searched_object::Object;
 use crate::seen::{Found, Seen};
+use crate::standing::{Way, is_stood_for};
 use crate::step::{Here, Task, one_more};
 use ob_interface::NoMemory;
 use smallvec::SmallVec;
@@ -125,6 +126,10 @@ fn advance_from<'a, O: Object>(
         limit: frame.limit,
         hard: is_hard.then_some(&*seen),
     };
+    let last = match stack.last() {
+        Some(last) if is_hard => Some(last.id.process),
+        _ => None,
+    };
     let Some(attempt) = chosen(task, &here, frame.next, calls)? else {
         return Ok(None);
     };
@@ -137,6 +142,14 @@ fn advance_from<'a, O: Object>(
     stack.push(Frame { next, id, ..frame })?;
     let limit = next_limit(task.rows, &there.counts, id, frame.limit);
     let limit = passed(task, stack, Frame { limit, ..frame }, &mut there, calls)?;
+    let way = Way {
+        place: frame.place,
+        limit,
+        process: last,
+    };
+    if is_stood_for(task, seen, &way, &there, calls)? {
+        return Ok(None);
+    }
     let arrived = arrive(task, seen, stack, there, limit)?;
     Ok(arrived)
 }

@@ -9,6 +9,7 @@ ghost use Rattle.wf_order.specs.Search.{IsAt};
 ghost use Rattle.wf_order.specs.Steps.{IsLimit};
 ghost use Rattle.wf_order.specs.Turns.{IsNextOf};
 
+use crate::hints::Wanted;
 use crate::next_call::Next;
 use crate::rows::{Begun, Ended, Rows};
 use crate::searched_object::Object;
@@ -87,10 +88,12 @@ pub(crate) fn has_sooner<O: Object>(task: &Task<O>, here: &Here<O::State>, next:
     }
     let counts = here.found.counts.as_slice();
     let taken = counts.get(next.process).copied().unwrap_or(0);
-    let looks = task.hints.looks_at(next.process, taken as usize);
+    let Some(own) = task.hints.at(next.process, taken as usize) else {
+        return false;
+    };
     let mut from = 0;
     for _ in 0..counts.len() {
-        let process = task.hints.first_like(counts, from, looks);
+        let process = task.hints.first(counts, from, Wanted::Like(own.looks));
         let Some(count) = counts.get(process) else {
             return false;
         };

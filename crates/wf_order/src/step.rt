@@ -11,7 +11,7 @@ ghost use Rattle.wf_order.specs.Rows.{call_at};
 ghost use Rattle.wf_order.specs.Steps.{one_more};
 ghost use Rattle.wf_order.specs.Turns.{IsNextOf};
 
-use crate::hints::Hints;
+use crate::hints::{Hints, Wanted};
 use crate::made_calls::{MadeCalls, outcome};
 use crate::next_call::Next;
 use crate::rows::{Begun, Ended, Rows};
@@ -24,7 +24,7 @@ use wf_history::{CallId, Event, SeenCall, SeenReply};
 use wf_lookup::compared_replies::{is_same_call, is_same_reply};
 
 /// What is searched: events, with their rows, on an object, and which calls it tells to be silent.
-#[derive_where(Clone, Copy)]
+#[derive(Drop)]
 pub(crate) struct Task<'r, 'a, O> {
     pub alloc: Global,
     pub events: &'a [Event],
@@ -34,7 +34,7 @@ pub(crate) struct Task<'r, 'a, O> {
 }
 
 /// A configuration, with the first place at which a call ends that is not taken there. In a hard search, all that was found.
-#[derive_where(Clone, Copy)]
+#[derive(Drop)]
 pub(crate) struct Here<'a, S> {
     pub found: &'a Found<S>,
     pub limit: usize,
@@ -179,7 +179,7 @@ pub(crate) fn any_silent_step<'a, O: Object>(
     let counts = here.found.counts.as_slice();
     let mut from = 0;
     for _ in 0..counts.len() {
-        let process = task.hints.first_quiet(counts, from, here.limit);
+        let process = task.hints.first(counts, from, Wanted::Quiet(here.limit));
         if process >= counts.len() {
             return Ok(Silent::Never);
         }

@@ -16,14 +16,14 @@ replies_so-requires-clause-made g c = c.loop.invariant
 
 pub returns-then-reads-clause-next : goal.returns-then-reads-clause-next
 returns-then-reads-clause-next g c =
-    let process = c.first_quiet-process.result in
+    let process = c.first-process.result in
     let counts = c.args.here.now.found.now.counts.items in
     let call = c.in-Some.ensures in
     (call.within, slice_get_within (row_of (begun_rows c.args.task.now.rows.now) process) (get_or counts process 0) c.in-Some.begun call.at.0)
 
 pub returns-then-reads-clause-reads : goal.returns-then-reads-clause-reads
 returns-then-reads-clause-reads g c = λ history at.
-    let process = c.first_quiet-process.result in
+    let process = c.first-process.result in
     let here = found_in g.O.Object.meaning c.args.here.now.found.now in
     let effect = g.O.Object.effect c.args.task.now.object.now in
     let call = c.in-Some.ensures in

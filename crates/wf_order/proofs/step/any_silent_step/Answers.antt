@@ -9,7 +9,7 @@ use Rattle.wf_order.proofs.step.any_silent_step.Goals as goal
 
 pub returns-then-is_same_reply-clause-silent : goal.returns-then-is_same_reply-clause-silent
 returns-then-is_same_reply-clause-silent g c = λ history at.
-    let process = c.first_quiet-process.result in
+    let process = c.first-process.result in
     let here = found_in g.O.Object.meaning c.args.here.now.found.now in
     let effect = g.O.Object.effect c.args.task.now.object.now in
     let call = c.in-Some.ensures in
