@@ -2,6 +2,7 @@
 
 use ob_explain_sentences::matcher::{View, word_hint};
 use ob_explain_sentences::table_rows::Number;
+
 /// Types of numbers of other languages, behind which their bits may stand.
 const NUMBER_TYPES: [&str; 5] = ["INT", "UINT", "LONGINT", "SHORTINT", "CARDINAL"];
 
@@ -64,7 +65,7 @@ pub fn begins_part(word: &[u8]) -> bool {
 }
 
 /// Whether a word is one of these, in small letters or large.
-fn is_one(names: &[&str], word: &[u8]) -> bool {
+pub(crate) fn is_one(names: &[&str], word: &[u8]) -> bool {
     for name in names {
         if word.eq_ignore_ascii_case(name.as_bytes()) {
             return true;

@@ -121,7 +121,7 @@ fn is_call_of(site: &Site<'_, '_>, line: &[Token]) -> bool {
 }
 
 /// Where the last line of some bytes begins.
-fn line_begin(bytes: &[u8]) -> usize {
+pub(crate) fn line_begin(bytes: &[u8]) -> usize {
     let mut begin = 0;
     for (at, byte) in bytes.iter().enumerate() {
         if *byte == b'\n' {

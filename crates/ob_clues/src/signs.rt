@@ -1,7 +1,9 @@
 //! What a `{`, a `//`, a `/=` and a `'` are meant to be, by the bytes around them.
 
+use crate::foreign::is_one;
+use crate::habits::line_begin;
 use ob_evidence::facts::note;
-use ob_explain_sentences::first_word::{is_same_in_any_case, word_at};
+use ob_explain_sentences::first_word::word_at;
 use ob_explain_sentences::place::halves;
 use ob_explain_sentences::table_rows::Fact;
 use std::alloc::AllocError;
@@ -79,13 +81,7 @@ fn line_of(bytes: &[u8]) -> &[u8] {
 
 /// The bytes behind the last line feed.
 fn line_behind(bytes: &[u8]) -> &[u8] {
-    let mut begin = 0;
-    for (at, byte) in bytes.iter().enumerate() {
-        if *byte == b'\n' {
-            begin = at.saturating_add(1);
-        }
-    }
-    halves(bytes, begin).1
+    halves(bytes, line_begin(bytes)).1
 }
 
 /// What a `{` is meant to be between the bytes before it in its line and those behind it: a comment, where it is closed there and holds no
@@ -190,14 +186,4 @@ fn begins_operand(bytes: &[u8]) -> bool {
         [first, ..] => first.is_ascii_alphanumeric() || *first == b'(',
         [] => false,
     }
-}
-
-/// Whether a word is one of these, in small letters or large.
-fn is_one(words: &[&str], word: &[u8]) -> bool {
-    for other in words {
-        if is_same_in_any_case(word, other.as_bytes()) {
-            return true;
-        }
-    }
-    false
 }

@@ -48,16 +48,12 @@ pub fn words_mending(alloc: Global, site: &Site<'_, '_>) -> Result<Option<Mendin
             if sign.kind == Kind::NotEqual
                 && word.kind == Kind::Ident
                 && is_kind(site.here(), Kind::Ident)
-                && !(is_name(site, site.word_of(Some(word))) && is_name(site, site.word())) => {
+                && !(declares(site.text, site.tokens, site.word_of(Some(word)))
+                    && declares(site.text, site.tokens, site.word())) => {
             line_left_out(alloc, site.text, sign.start)
         }
         _ => Ok(None),
     }
-}
-
-/// Whether the text declares a name.
-fn is_name(site: &Site<'_, '_>, word: &[u8]) -> bool {
-    declares(site.text, site.tokens, word)
 }
 
 /// The same of one word, of which none is visible, at the end of the line of an assignment or a call.

@@ -176,18 +176,14 @@ pub fn byte_mending(
     }
     let (before, from) = halves(text, place);
     let length = length_of_run(from, Run::Foreign);
-    if length > 0 && ends_name(before) {
+    // A name goes on with them.
+    if let [.., last] = before
+        && last.is_ascii_alphanumeric()
+        && length > 0
+    {
         return lettered(alloc, place, length);
     }
     fixed(alloc, place, length.max(1), BYTE)
-}
-
-/// Whether bytes end with a letter or a digit.
-fn ends_name(bytes: &[u8]) -> bool {
-    match bytes {
-        [.., last] => last.is_ascii_alphanumeric(),
-        [] => false,
-    }
 }
 
 /// The mending that puts letters in place of so many bytes.

@@ -120,7 +120,7 @@ pub(crate) fn begins_with(site: &Site<'_, '_>, token: Token, words: &[&[u8]]) ->
 }
 
 /// Whether a word is one of these, in capitals or not.
-fn is_one_of(words: &[&[u8]], word: &[u8]) -> bool {
+pub(crate) fn is_one_of(words: &[&[u8]], word: &[u8]) -> bool {
     for other in words {
         if is_same_in_any_case(word, other) {
             return true;

@@ -1,7 +1,7 @@
 //! Declarations: one that is there twice, one that is missing, a variable that is declared with a value, and a parameter that lacks its VAR.
 
-use crate::constructs::begins_with;
-use crate::headings::heading_name;
+use crate::constructs::{begins_with, is_one_of};
+use crate::headings::{count_of, heading_name};
 use itoa::Buffer;
 use ob_evidence::nearest_names::leads_to_statement;
 use ob_evidence::small_keywords::next_behind;
@@ -204,21 +204,11 @@ fn outermost(tokens: &[Token]) -> Option<Token> {
 fn renamed(alloc: Global, site: &Site<'_, '_>) -> Result<Option<Mending>, AllocError> {
     let mut name = Vec::from_slice(alloc, site.word())?;
     name.push(b'2')?;
-    if site.word().is_empty() || has_word(site, &name) {
+    if site.word().is_empty() || count_of(site, &name, false) > 0 {
         return Ok(None);
     }
     let length = length_of(site.here());
     worded(alloc, site.place, length, &name, " in its place")
-}
-
-/// Whether a token of the text is this name.
-fn has_word(site: &Site<'_, '_>, name: &[u8]) -> bool {
-    for token in site.tokens {
-        if site.word_of(Some(*token)) == name {
-            return true;
-        }
-    }
-    false
 }
 
 /// Where variables are declared: the VAR of their section, or what a VAR is to stand before.
@@ -377,19 +367,15 @@ fn declared_end(tokens: &[Token]) -> Option<usize> {
 }
 
 /// Words of other languages for values that are none.
-const VALUES: [&[u8]; 6] = [b"NONE", b"NULL", b"NIL", b"TRUE", b"FALSE", b"UNDEFINED"];
+const VALUES: &[&[u8]] = &[b"NONE", b"NULL", b"NIL", b"TRUE", b"FALSE", b"UNDEFINED"];
 
 /// Whether the name at the place is one of a variable without parts, by what stands around it.
 fn is_variable_meant(site: &Site<'_, '_>) -> bool {
-    for value in &VALUES {
-        if is_same_in_any_case(site.word(), value) {
-            return false;
-        }
-    }
     let next = kind_or_name(site.next());
     let last = kind_or_name(site.last());
     is_in_body(site.before)
         && !site.word().is_empty()
+        && !is_one_of(VALUES, site.word())
         && !matches!(next, Kind::LeftParen | Kind::LeftBracket | Kind::Dot)
         && last != Kind::Dot
         && !is_field(site)

@@ -51,10 +51,9 @@ const ENDS: &[Kind] = &[
 
 /// The mending of the value, the length or the type in which the place stands, in a declaration.
 pub fn value_mending(alloc: Global, site: &Site<'_, '_>) -> Result<Option<Mending>, AllocError> {
-    if is_in_body(site.before)
-        || is_kind(site.last(), Kind::Colon) && is_name_there(site)
-        || is_assigned(site)
-    {
+    // A type of which none is visible may have parts, so no other one is put in its place.
+    let is_type_named = is_kind(site.last(), Kind::Colon) && is_kind(site.here(), Kind::Ident);
+    if is_in_body(site.before) || is_type_named || is_assigned(site) {
         return Ok(None);
     }
     let Some(gap) = gap_at(site) else {
@@ -72,11 +71,6 @@ pub fn value_mending(alloc: Global, site: &Site<'_, '_>) -> Result<Option<Mendin
 fn is_assigned(site: &Site<'_, '_>) -> bool {
     let word = site.word_of(site.last());
     is_kind(site.here(), Kind::Assign) && !is_language_type(word)
-}
-
-/// Whether a name stands at the place. A type of which none is visible may have parts, so no other one is put in its place.
-fn is_name_there(site: &Site<'_, '_>) -> bool {
-    is_kind(site.here(), Kind::Ident)
 }
 
 /// The mending that leaves out the type of a result, which stands behind the parameters of a heading, or the value of a variable, which stands
@@ -193,13 +187,7 @@ pub fn out_mending(alloc: Global, site: &Site<'_, '_>) -> Result<Option<Mending>
             if is_out(site.word_of(Some(out)))
                 && name.kind == Kind::Ident
                 && is_kind(site.second(), Kind::Colon)
-                && is_kind(site.here(), Kind::Ident) => {
-            let mut put = Vec::from_slice(alloc, b"VAR ")?;
-            put.extend_from_slice(site.word_of(Some(name)))?;
-            put.push(b':')?;
-            let taken = out.end.saturating_sub(name.start);
-            worded(alloc, name.start, taken, &put, " in its place")
-        }
+                && is_kind(site.here(), Kind::Ident) => { var_before(alloc, site, name, out.end) }
         (Some(word), _)
             if is_same_in_any_case(site.word_of(Some(word)), b"IN")
                 && is_kind(site.second(), Kind::Colon)
@@ -339,15 +327,23 @@ pub fn var_mending(alloc: Global, site: &Site<'_, '_>) -> Result<Option<Mending>
         (Some(var), Some(name))
             if var.kind == Kind::Var
                 && name.kind == Kind::Ident
-                && is_kind(site.last(), Kind::Colon) => {
-            let mut put = Vec::from_slice(alloc, b"VAR ")?;
-            put.extend_from_slice(site.word_of(Some(name)))?;
-            put.push(b':')?;
-            let taken = var.end.saturating_sub(name.start);
-            worded(alloc, name.start, taken, &put, " in its place")
-        }
+                && is_kind(site.last(), Kind::Colon) => { var_before(alloc, site, name, var.end) }
         _ => Ok(None),
     }
+}
+
+/// The mending that puts VAR before the name of a parameter: `VAR x:` for what stands from there up to a place.
+fn var_before(
+    alloc: Global,
+    site: &Site<'_, '_>,
+    name: Token,
+    end: usize,
+) -> Result<Option<Mending>, AllocError> {
+    let mut put = Vec::from_slice(alloc, b"VAR ")?;
+    put.extend_from_slice(site.word_of(Some(name)))?;
+    put.push(b':')?;
+    let taken = end.saturating_sub(name.start);
+    worded(alloc, name.start, taken, &put, " in its place")
 }
 
 /// The mending of a 0 or a 1 that is meant to be FALSE or TRUE.

@@ -5,11 +5,14 @@
 //! as it was made. Which mending is chosen, and the words, may change without asking.
 #![tactic(auto)]
 
+mod declarations;
 mod ends;
+mod foreign_words;
 pub mod further_faults;
 mod marks;
 mod names;
 mod numbers;
+mod operands;
 mod slip;
 pub mod slip_remark;
 pub mod stage;

@@ -1,16 +1,17 @@
 //! Which mending is chosen, by what stands at a fault of a text: the first one with which the text has no fault, or one further on. Which sorts
 //! are tried, and in which order, is a matter of taste: rows of the tests show it.
 
+use crate::declarations::{prefix_mending, swapped_mending};
 use crate::ends::{
     import_mending, inner_end, missing_dot, missing_end, nameless_end, unended_mending,
 };
 use crate::marks::{mark_mending, semicolon_behind};
 use crate::names::{end_mending, near_mending};
 use crate::numbers::hexadecimal_mending;
+use crate::operands::{call_mending, index_mending, size_mending};
 use crate::words::{
-    alone_before, alone_there, call_mending, colon_mending, index_mending, keyword_mending,
-    misspelt_before, misspelt_first, misspelt_there, pointer_mending, prefix_mending,
-    record_mending, size_mending, swapped_mending, type_mending,
+    alone_before, alone_there, colon_mending, keyword_mending, misspelt_before, misspelt_first,
+    misspelt_there, pointer_mending, record_mending, type_mending,
 };
 use ob_check::TextFault;
 use ob_evidence::small_keywords::first_of_statement;
