@@ -144,10 +144,10 @@ module _ (parts : EngineParts) (block : List ℤ) (lawful : ∥ IsLawfulFor part
   pub length_is : length block ≡ parts.variables
   length_is = ∥∥₁_elim lawful (ℕ_set (length block) parts.variables) (λ l. (lawful_of l.program parts l.compiled).length_lawful block l.is)
 
-  -- the body of a call that fits has returned or trapped
-  pub ended_one : (call : ObjectCall) → IsFitting parts.exports call → (t : EngineTurn) → (body (meaning_of parts) (paid parts) block call).turn ≡ t →
-      ¬ (t ≡ Returned) → ((k : ℕ) → ¬ (t ≡ Trapped k)) → ⊥
-  ended_one call fits On is not_returned not_trapped = ∥∥₁_elim lawful (λ a b. absurd a) (λ l. not_on l.program parts l.compiled call fits l.is.state block l.is.encodes is)
-  ended_one call fits Returned is not_returned not_trapped = not_returned refl
-  ended_one call fits (Trapped k) is not_returned not_trapped = not_trapped k refl
-  ended_one call fits Stuck is not_returned not_trapped = ∥∥₁_elim lawful (λ a b. absurd a) (λ l. not_stuck l.program parts l.compiled call fits l.is.state block l.is.encodes is)
+  -- the body of a call that fits has returned, where it has not trapped
+  pub returned_one : (call : ObjectCall) → IsFitting parts.exports call → (t : EngineTurn) → (body (meaning_of parts) (paid parts) block call).turn ≡ t →
+      ((k : ℕ) → ¬ (t ≡ Trapped k)) → Returned ≡ t
+  returned_one call fits On is not_trapped = absurd (∥∥₁_elim lawful (λ a b. absurd a) (λ l. not_on l.program parts l.compiled call fits l.is.state block l.is.encodes is))
+  returned_one call fits Returned is not_trapped = refl
+  returned_one call fits (Trapped k) is not_trapped = absurd (not_trapped k refl)
+  returned_one call fits Stuck is not_trapped = absurd (∥∥₁_elim lawful (λ a b. absurd a) (λ l. not_stuck l.program parts l.compiled call fits l.is.state block l.is.encodes is))

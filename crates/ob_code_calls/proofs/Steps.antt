@@ -38,25 +38,25 @@ module _ {Run : Type 0} (m : Meaning Run) where
       ap (λ (i : ℕ). steps m i run block) more
       ∙ after_first s.turn s (steps m j s.run s.block) (steps m (j + k) s.run s.block) (λ (t : Turned Run). steps m k t.run t.block) refl (split j k (j + k) s.run s.block refl)
 
-  module _ (most i j : ℕ) (below : i + j ≤ most) (run : Run) (block : List ℤ) where
-    parted : most - i ≡ j + (most - (i + j))
+  module _ (left j : ℕ) (below : j ≤ left) (run : Run) (block : List ℤ) where
+    parted : left ≡ j + (left - j)
     parted = omega arith
 
-    behind : (t : Turned Run) → t ≡ steps m j run block → steps m (most - i) run block ≡ after_turn t.turn t (steps m (most - (i + j)) t.run t.block)
+    behind : (t : Turned Run) → t ≡ steps m j run block → steps m left run block ≡ after_turn t.turn t (steps m (left - j) t.run t.block)
     behind t is =
-        split j (most - (i + j)) (most - i) run block parted
-        ∙ ap (λ (t : Turned Run). after_turn t.turn t (steps m (most - (i + j)) t.run t.block)) (sym is)
+        split j (left - j) left run block parted
+        ∙ ap (λ (t : Turned Run). after_turn t.turn t (steps m (left - j) t.run t.block)) (sym is)
 
     -- behind steps that go on
     pub leaps_on : (t : EngineTurn) (run' : Run) (block' : List ℤ) → On ≡ t → record { turn = t; run = run'; block = block' } ≡ steps m j run block
-        → steps m (most - i) run block ≡ steps m (most - (i + j)) run' block'
+        → steps m left run block ≡ steps m (left - j) run' block'
     leaps_on t run' block' on is =
         behind (record { turn = t; run = run'; block = block' }) is
-        ∙ ap (λ (u : EngineTurn). after_turn u (record { turn = t; run = run'; block = block' }) (steps m (most - (i + j)) run' block')) (sym on)
+        ∙ ap (λ (u : EngineTurn). after_turn u (record { turn = t; run = run'; block = block' }) (steps m (left - j) run' block')) (sym on)
 
     -- behind some that do not
     pub leaps_last : (t : EngineTurn) (run' : Run) (block' : List ℤ) → (t ≡ On → ⊥) → record { turn = t; run = run'; block = block' } ≡ steps m j run block
-        → steps m (most - i) run block ≡ record { turn = t; run = run'; block = block' }
+        → steps m left run block ≡ record { turn = t; run = run'; block = block' }
     leaps_last t run' block' not_on is = behind (record { turn = t; run = run'; block = block' }) is ∙ stays t (record { turn = t; run = run'; block = block' }) _ (over_of t not_on)
 
   one_after : (t : EngineTurn) (s : Turned Run) → t ≡ s.turn → after_turn t s (record { turn = On; run = s.run; block = s.block }) ≡ s

@@ -1,5 +1,6 @@
 -- What a call makes of a block of words, and what it answers.
-use Rattle.std.specs.Prelude.{◌≡◌, ◌+◌, ◌*◌, ℕ, ℤ, List, [], ◌∷◌, Option, Some, None, length}
+use Rattle.std.specs.Prelude.{◌≡◌, ◌+◌, ◌*◌, ℕ, ℤ, List, [], ◌∷◌, Option, Some, None, length, map}
+use Rattle.std.specs.List.{range_with_len}
 use Rattle.ob_interface.specs.Call.{ObjectCall, Reply, Answers, Trapped}
 use Rattle.ob_interface.specs.declared.scalar.Scalar.{Scalar}
 use Rattle.ob_typing.specs.Program.{Program}
@@ -23,6 +24,10 @@ pub record IsMade (program : Program) (budget : ℕ) (call : ObjectCall) (before
 -- what code with these parts does as an engine
 abbrev pub meaning_of : EngineParts → Meaning Run
 meaning_of = code_meaning
+
+-- the words of the results of a body, one for each of the most results
+abbrev pub results_of : Meaning Run → Run → List ℤ
+results_of meaning run = map (meaning.result run) (range_with_len 0 meaning.replies)
 
 -- so many instructions are paid for: as many as the code has by each turn, and by the call itself
 abbrev pub paid : EngineParts → ℕ

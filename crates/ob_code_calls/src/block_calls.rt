@@ -157,10 +157,10 @@ impl CodeCalls {
         ensures left { block.new ≡ left_by (parts_in self.now) block.old (asked proc arguments.now) }
     {
         let (turn, steps) = self.run_through(room, block, proc, arguments);
+        // A body that is over, and has not trapped, has returned.
         match turn {
-            EngineTurn::Returned => (None, steps),
             EngineTurn::Trapped(number) => (Some(number), steps),
-            _ => unreachable!(),
+            _ => (None, steps),
         }
     }
 
@@ -177,13 +177,12 @@ impl CodeCalls {
 
     /// Whether a call of an export whose body has returned is answered by these values.
     #[inline(always)]
-    pub(crate) fn has_replied(&self, room: &mut Room, proc: usize, values: &[Scalar]) -> bool
-        requires { IsRoomFor (parts_in self.now) room.old }
+    pub(crate) fn has_replied(&self, room: &Room, proc: usize, values: &[Scalar]) -> bool
+        requires { IsRoomFor (parts_in self.now) room.now }
         ensures { (arguments : List Scalars.Scalar) → IsTrue result
-            ↔ ((meaning_of (parts_in self.now)).reply (asked proc arguments) (kept (meaning_of (parts_in self.now)) room.old.run) ≡ Answers values.now) }
+            ↔ ((meaning_of (parts_in self.now)).reply (asked proc arguments) (kept (meaning_of (parts_in self.now)) room.now.run) ≡ Answers values.now) }
     {
-        let words = room.results.as_mut_slice();
-        has_replied(&self.engine, &room.run, proc, values, words)
+        has_replied(&self.engine, &room.run, proc, values)
     }
 
     /// A call that is made on the block of a state, its reply, and how many instructions it took. Where it traps, what it has written is

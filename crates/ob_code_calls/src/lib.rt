@@ -7,6 +7,7 @@
 pub mod block_calls;
 mod fitting_arguments;
 pub mod known_reply;
+mod laid_calls;
 mod noted_calls;
 pub mod room;
 mod running;

@@ -9,8 +9,9 @@ ghost use Rattle.ob_interface.specs.View.{reply_of};
 ghost use Rattle.ob_interface.specs.declared.scalar.Scalar as Scalars;
 ghost use Rattle.wf_table.specs.Meaning.{kept, steps};
 
-use crate::wanted_values::are_values_of;
-use ob_code_engine::call_words::{lay, reply_in};
+use crate::laid_calls::lay_call;
+use crate::wanted_values::are_results;
+use ob_code_engine::call_words::reply_in;
 use ob_code_engine::{CodeEngine, Entrance};
 use ob_code_machine::Body;
 use ob_interface::call::Reply;
@@ -37,7 +38,7 @@ pub(crate) fn begin(
 {
     // The exports stand in memory, so that their numbers are words.
     let _exports = engine.exports();
-    lay(proc, arguments, words);
+    lay_call(proc, arguments, words);
     engine.start(run, words);
 }
 
@@ -55,16 +56,16 @@ pub(crate) fn run_on(
     ensures ready { HasReserve engine.now.parts run.new }
     ensures steps { record { turn = result.0; run = run.new; block = block.new } ≡ steps (meaning_of engine.now.parts) most run.old block.old }
 {
-    let mut count = 0;
-    while most - count >= 2 {
+    let mut left = most;
+    while left >= 2 {
         let (turn, taken) = engine.leap(run, block);
-        count += taken;
+        left -= taken;
         match turn {
             EngineTurn::On => {}
-            turn => return (turn, count),
+            turn => return (turn, most - left),
         }
     }
-    if count == most {
+    if left == 0 {
         return (EngineTurn::On, most);
     }
     (engine.step(run, block), most)
@@ -110,21 +111,13 @@ pub(crate) fn reply_to(
 
 /// Whether a call of an export whose body has returned is answered by these values.
 #[inline(always)]
-pub(crate) fn has_replied(
-    engine: &CodeEngine,
-    run: &Body,
-    proc: usize,
-    values: &[Scalar],
-    words: &mut [i64],
-) -> bool
-    requires ready { HasReserve engine.now.parts run.now }
-    requires room { length words.old ≡ (meaning_of engine.now.parts).replies }
+pub(crate) fn has_replied(engine: &CodeEngine, run: &Body, proc: usize, values: &[Scalar]) -> bool
+    requires { HasReserve engine.now.parts run.now }
     ensures { (arguments : List Scalars.Scalar) → IsTrue result
         ↔ ((meaning_of engine.now.parts).reply (asked proc arguments) (kept (meaning_of engine.now.parts) run.now) ≡ Answers values.now) }
 {
-    note_results(engine, run, words);
     match export_at(engine, proc) {
-        Some(export) => are_values_of(export.parameters(), words, values),
-        None => are_values_of(&[], words, values),
+        Some(export) => are_results(engine, run, export.parameters(), values),
+        None => are_results(engine, run, &[], values),
     }
 }

@@ -166,10 +166,10 @@ impl ScalarCalls {
 
     /// Whether a call of an export has the reply that is wanted, of which the body has returned, or trapped so.
     #[inline(always)]
-    fn is_wanted(&self, room: &mut Room, proc: usize, trap: Option<u8>, wanted: Wanted) -> bool
-        requires { IsRoomFor (parts_in self.now.calls) room.old }
+    fn is_wanted(&self, room: &Room, proc: usize, trap: Option<u8>, wanted: Wanted) -> bool
+        requires { IsRoomFor (parts_in self.now.calls) room.now }
         ensures { (arguments : List Scalars.Scalar)
-            → IsTrue result ↔ IsWanted wanted.entry (reply_behind (parts_in self.now.calls) (asked proc arguments) room.old.run trap) }
+            → IsTrue result ↔ IsWanted wanted.entry (reply_behind (parts_in self.now.calls) (asked proc arguments) room.now.run trap) }
     {
         match (wanted, trap) {
             (Wanted::Any, _) => true,
@@ -224,10 +224,10 @@ impl ScalarCalls {
             arguments,
             wanted,
         } = request;
-        let Some((mut work, trap)) = self.made(variables, scalars, proc, arguments)? else {
+        let Some((work, trap)) = self.made(variables, scalars, proc, arguments)? else {
             return Ok(Led::Nowhere);
         };
-        if !self.is_wanted(&mut work.room, proc, trap, wanted) {
+        if !self.is_wanted(&work.room, proc, trap, wanted) {
             self.work.set(Some(work));
             return Ok(Led::Elsewhere);
         }

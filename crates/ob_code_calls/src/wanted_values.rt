@@ -1,11 +1,15 @@
-//! Values that are wanted of a call, and the words of its results.
+//! Values that are wanted of a call, and the results of its body.
 
-ghost use Rattle.std.specs.Prelude.{◌≡◌, ◌↔◌, IsTrue};
+ghost use Rattle.std.specs.Prelude.{◌≡◌, ◌≤◌, ◌↔◌, IsTrue};
+ghost use Rattle.ob_code_calls.specs.Calls.{meaning_of, results_of};
 ghost use Rattle.ob_code_correct.specs.CodeMeaning as Words;
+ghost use Rattle.ob_code_correct.specs.Compiled.{HasReserve};
 
-use ob_code_engine::call_words::split;
+use ob_code_engine::CodeEngine;
+use ob_code_machine::Body;
 use ob_interface::export::Formal;
 use ob_interface::scalar::{Scalar, ScalarType};
+use wf_object::Engine;
 
 /// Whether a value is the one of a type that a word stands for: an INTEGER is 0 where the word is none, and each word but 0 is TRUE.
 #[inline(always)]
@@ -22,23 +26,30 @@ fn is_value_of(value: Scalar, scalar_type: ScalarType, word: i64) -> bool
     }
 }
 
-/// Whether values are those that words stand for, one for each VAR parameter.
+/// Whether values are those of the results of a body that has returned, one for each VAR parameter.
 #[inline(always)]
-pub(crate) fn are_values_of(parameters: &[Formal], words: &[i64], values: &[Scalar]) -> bool
-    ensures { IsTrue result ↔ (Words.values_of parameters.now words.now ≡ values.now) }
+pub(crate) fn are_results(
+    engine: &CodeEngine,
+    run: &Body,
+    parameters: &[Formal],
+    values: &[Scalar],
+) -> bool
+    requires ready { HasReserve engine.now.parts run.now }
+    requires few { Words.result_count parameters.now ≤ (meaning_of engine.now.parts).replies }
+    ensures { IsTrue result ↔ (Words.values_of parameters.now (results_of (meaning_of engine.now.parts) run.now) ≡ values.now) }
 {
-    let mut rest = words;
+    let mut place = 0;
     let mut others = values;
     for parameter in parameters {
         if parameter.is_var {
             let Some((value, next)) = others.split_first() else {
                 return false;
             };
-            let (word, behind) = split(rest);
+            let word = engine.result(run, place);
             if !is_value_of(*value, parameter.scalar_type, word) {
                 return false;
             }
-            rest = behind;
+            place += 1;
             others = next;
         }
     }

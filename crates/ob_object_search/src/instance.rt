@@ -17,6 +17,7 @@ use ob_interface::call::Reply;
 use ob_mean::call as interpreter;
 use ob_mean::outside_call::step;
 use ob_store::state::State;
+use ob_store::value::copy_all;
 use smallvec::SmallVec;
 use std::alloc::{AllocError, Global};
 use wf_history::{SeenCall, SeenReply};
@@ -174,9 +175,9 @@ impl<'a> Object for ModuleObject<'a> {
             && let KeptState::Scalars(scalars) = state
         {
             let variables = self.checked.program().variables.as_slice();
-            let arguments = call.args.lent();
             let scalars = scalars.as_slice();
-            let made = code.called(variables, scalars, call.proc, arguments.as_slice())?;
+            let lent = call.args.lent();
+            let made = code.called(variables, scalars, call.proc, lent.as_slice())?;
             if let Some((after, answer)) = made {
                 return Ok((KeptState::Scalars(after), answer));
             }
@@ -196,12 +197,15 @@ impl<'a> Object for ModuleObject<'a> {
         {
             let variables = self.checked.program().variables.as_slice();
             let scalars = scalars.as_slice();
-            let arguments = call.args.lent();
+            // What is lent is looked at at once: where it lies is then not asked twice.
+            let lent = call.args.lent();
+            let arguments = lent.as_slice();
             let reply = KnownReply::new(known);
+            let wanted = reply.wanted();
             let request = Request {
                 proc: call.proc,
-                arguments: arguments.as_slice(),
-                wanted: reply.wanted(),
+                arguments,
+                wanted,
             };
             let led = code.led(variables, scalars, request)?;
             match led {
@@ -214,7 +218,12 @@ impl<'a> Object for ModuleObject<'a> {
     }
 
     fn copy(&self, alloc: Global, state: &KeptState) -> Result<KeptState, NoMemory> {
-        state.copy(alloc)
+        match state {
+            KeptState::Scalars(scalars) => {
+                Ok(KeptState::Scalars(SmallVec::from_slice(alloc, scalars.as_slice())?))
+            }
+            KeptState::Values(values) => Ok(KeptState::Values(copy_all(alloc, values.as_slice())?)),
+        }
     }
 
     fn is_same(
@@ -223,7 +232,12 @@ impl<'a> Object for ModuleObject<'a> {
         state: &KeptState,
         other: &KeptState,
     ) -> Result<bool, NoMemory> {
-        state.is_same(alloc, other)
+        if let (KeptState::Scalars(scalars), KeptState::Scalars(others)) = (state, other) {
+            return Ok(scalars.as_slice() == others.as_slice());
+        }
+        let words = state.words(alloc)?;
+        let others = other.words(alloc)?;
+        Ok(words.as_slice() == others.as_slice())
     }
 
     fn words(&self, alloc: Global, state: &KeptState) -> Result<Words, NoMemory> {

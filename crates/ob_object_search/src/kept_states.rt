@@ -1,6 +1,6 @@
 //! States of a module's object, as a search keeps them.
 
-ghost use Rattle.std.specs.Prelude.{◌≡◌, ◌↔◌, IfOk, IfSome, IsTrue, map};
+ghost use Rattle.std.specs.Prelude.{◌≡◌, IfOk, IfSome, map};
 ghost use Rattle.ob_code_calls.specs.Scalars.{held_of};
 ghost use Rattle.ob_object_search.specs.Kept.{kept_in};
 ghost use Rattle.ob_object_search.specs.Words.{words_of};
@@ -69,30 +69,6 @@ impl KeptState {
             KeptState::Scalars(scalars) => Ok(State::new(values_of(alloc, scalars.as_slice())?)),
             KeptState::Values(values) => Ok(State::new(copy_all(alloc, values.as_slice())?)),
         }
-    }
-
-    /// The same, a copy.
-    pub(crate) fn copy(&self, alloc: Global) -> Result<KeptState, NoMemory>
-        ensures { IfOk result (λ same. kept_in same ≡ kept_in self.now) }
-    {
-        match self {
-            KeptState::Scalars(scalars) => {
-                Ok(KeptState::Scalars(SmallVec::from_slice(alloc, scalars.as_slice())?))
-            }
-            KeptState::Values(values) => Ok(KeptState::Values(copy_all(alloc, values.as_slice())?)),
-        }
-    }
-
-    /// Whether it is the same as another one.
-    pub(crate) fn is_same(&self, alloc: Global, other: &KeptState) -> Result<bool, NoMemory>
-        ensures { IfOk result (λ same. IsTrue same ↔ (kept_in self.now ≡ kept_in other.now)) }
-    {
-        if let (KeptState::Scalars(scalars), KeptState::Scalars(others)) = (self, other) {
-            return Ok(scalars.as_slice() == others.as_slice());
-        }
-        let words = self.words(alloc)?;
-        let others = other.words(alloc)?;
-        Ok(words.as_slice() == others.as_slice())
     }
 
     /// Its words.

@@ -56,6 +56,11 @@ pub(crate) fn scalar_words(alloc: Global, scalars: &[Scalar]) -> Result<Words, N
     ensures { IfOk result (λ words. words.items ≡ words_of (map held_of scalars.now)) }
 {
     let mut words = SmallVec::new(alloc);
+    // Mostly there is one, for which there is room.
+    if let [scalar] = scalars {
+        words.push_reserved(word_of(*scalar));
+        return Ok(words);
+    }
     for scalar in scalars {
         words.push(word_of(*scalar))?;
     }

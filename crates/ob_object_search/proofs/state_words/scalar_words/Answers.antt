@@ -11,4 +11,4 @@ loop-scalar-preserved c =
     let s = get_or scalars i (Int (pos 0)) in
     let below : i < length scalars = omega arith in
     words_more_of c.loop-scalar.words.items c.push.new.self.items scalars i s below (get_any scalars i (Int (pos 0)) s below)
-    (c.in_ok-push.ensures.ok ∙ ap (λ (x : ℕ). c.loop-scalar.words.items ++ x ∷ []) c.word_of.ensures) c.loop-scalar.invariant
+    (c.in_ok-push.ensures.ok ∙ ap (λ (x : ℕ). c.loop-scalar.words.items ++ x ∷ []) c.word_of-in-loop-scalar.ensures) c.loop-scalar.invariant

@@ -17,7 +17,7 @@ returns-then-not-is_wanted c = λ program types compiled are wanted.
     let work = c.in-Some.work.value in
     let m = some_at c.in_ok-work.field-0 _ (λ made. IsMadeOn program parts call c.args.scalars.now made.0.value made.1) c.in-Some.is (c.in_ok-work.ensures.made program types compiled are) in
     let reply = reply_is program parts call before m.block work.block.items work.room.run c.in-Some.trap m.through
-    ∙ ap (λ (w : Work). reply_behind parts call w.room.run c.in-Some.trap) (sym c.deref_mut.ensures.value) in
+    ∙ ap (λ (w : Work). reply_behind parts call w.room.run c.in-Some.trap) (sym c.deref.ensures) in
     let t = (c.is_wanted.ensures c.args.request.arguments.now).1 (subst (IsWanted c.args.request.wanted) reply wanted) in
     let f = c.if-not-is_wanted.true in
     absurd (cc)
@@ -31,8 +31,8 @@ returns-in-Some-after c = λ program types compiled are.
     let work = c.in-Some.work.value in
     let m = some_at c.in_ok-work.field-0 _ (λ made. IsMadeOn program parts call scalars made.0.value made.1) c.in-Some.is (c.in_ok-work.ensures.made program types compiled are) in
     let reply = reply_is program parts call before m.block work.block.items work.room.run c.in-Some.trap m.through
-    ∙ ap (λ (w : Work). reply_behind parts call w.room.run c.in-Some.trap) (sym c.deref_mut.ensures.value) in
-    let words = c.as_slice.ensures.value ∙ ap (λ (w : Work). w.block.items) c.deref.ensures ∙ ap (λ (w : Work). w.block.items) c.deref_mut.ensures.value in
+    ∙ ap (λ (w : Work). reply_behind parts call w.room.run c.in-Some.trap) (sym c.deref.ensures) in
+    let words = c.as_slice.ensures.value ∙ ap (λ (w : Work). w.block.items) c.deref-2.ensures in
     let behind = some_at c.in_ok-after.after c.in-Some-after.after (λ after. AreBehind c.args.variables.now scalars c.as_slice.result.now c.in-Some.trap after.items) c.in-Some-after.is c.in_ok-after.ensures in (
       behind_is program parts c.args.variables.now types are call before scalars c.in-Some-after.after.items m.block work.block.items work.room.run c.in-Some.trap refl m.laid m.through
           (subst (λ (ws : List ℤ). AreBehind c.args.variables.now scalars ws c.in-Some.trap c.in-Some-after.after.items) words behind),

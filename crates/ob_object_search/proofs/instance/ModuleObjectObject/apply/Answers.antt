@@ -34,7 +34,7 @@ returns-in-Some-made c =
     let arguments = c.as_slice.result.now in
     let scalars = c.as_slice-scalars.result.now in
     let coded = subst (λ (code : Option ScalarCalls). ∥ IsCodeOf program o.budget code ∥₁) c.in-Some.is o.coded in
-    let same = ap (asked c.args.call.proc) (c.as_slice.ensures ∙ c.lent-arguments.ensures) in
+    let same = ap (asked c.args.call.proc) (c.as_slice.ensures ∙ c.lent-lent.ensures) in
     let before = ap (λ (ss : List Scalar). map held_of ss) c.as_slice-scalars.ensures ∙ sym (ap kept_in c.in-Scalars.is) in
     ∥∥₁_elim coded (Coded-set coded_effect _ _) (λ h.
     leads program (parts_in c.in-Some.code.calls) o.budget h.turns (asked c.args.call.proc arguments) call same scalars c.in-Some-made.after.items (reply_of c.in-Some-made.answer)

@@ -36,11 +36,11 @@ leads c came named =
     let types = table_of c.program.result.now.types in
     let are = variables_are c.program.result.now program c.as_slice-variables.result.now c.program.ensures.program c.as_slice-variables.ensures.value in
     let coded = subst (λ (code : Option ScalarCalls). ∥ IsCodeOf program o.budget code ∥₁) c.in-Some.is o.coded in
-    let same = ap (asked c.args.call.proc) (c.as_slice.ensures ∙ c.lent-arguments.ensures) in
-    let wanted = c.wanted.result in
-    let is = subst (λ (k : Option Reply). (r : Reply) → IsWanted wanted r ↔ IfSome k (λ x. x ≡ r)) c.new-reply.ensures c.wanted.ensures in
+    let same = ap (asked c.args.call.proc) (c.as_slice-arguments.ensures ∙ c.lent-lent.ensures) in
+    let wanted = c.wanted-wanted.result in
+    let is = subst (λ (k : Option Reply). (r : Reply) → IsWanted wanted r ↔ IfSome k (λ x. x ≡ r)) c.new-reply.ensures c.wanted-wanted.ensures in
     let holds = ap (λ (ss : List Scalar). map held_of ss) c.as_slice-scalars.ensures ∙ sym (ap kept_in c.in-Scalars.is) in
-    led_as program o.budget code coded (asked c.args.call.proc c.as_slice.result.now) (seen_call c.args.call) same c.as_slice-scalars.result.now wanted (option_map seen_reply c.args.known) is
+    led_as program o.budget code coded (asked c.args.call.proc c.as_slice-arguments.result.now) (seen_call c.args.call) same c.as_slice-scalars.result.now wanted (option_map seen_reply c.args.known) is
     (kept_in c.args.state.now) holds c.in_ok-led.led (λ has. c.in_ok-led.ensures program types has.compiled are) came named
 
 pub returns-in-To : goal.returns-in-To

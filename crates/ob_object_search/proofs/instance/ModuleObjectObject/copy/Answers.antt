@@ -3,7 +3,7 @@ use Rattle.std.proofs.Common.{◌∙◌, ap, sym}
 use Rattle.ob_object_search.specs.Kept.{kept_in}
 use Rattle.ob_store.proofs.Stored.{same_variables}
 use Rattle.ob_store.specs.View.{variables_in}
-use Rattle.ob_object_search.proofs.kept_states.KeptState.copy.Goals as goal
+use Rattle.ob_object_search.proofs.instance.ModuleObjectObject.copy.Goals as goal
 
 pub returns-in_ok-copy_all-in-Values : goal.returns-in_ok-copy_all-in-Values
 returns-in_ok-copy_all-in-Values c =

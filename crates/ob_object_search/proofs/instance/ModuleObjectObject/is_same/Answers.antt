@@ -8,7 +8,7 @@ use Rattle.ob_object_search.specs.Kept.{kept_in}
 use Rattle.ob_object_search.specs.Laws.{words_told_apart}
 use Rattle.ob_object_search.specs.Words.{words_of}
 use Rattle.wf_history.proofs.Same.{scalar_eq, scalar_decides}
-use Rattle.ob_object_search.proofs.kept_states.KeptState.is_same.Goals as goal
+use Rattle.ob_object_search.proofs.instance.ModuleObjectObject.is_same.Goals as goal
 
 held_apart : (a b : List Scalar) → map held_of a ≡ map held_of b → a ≡ b
 held_apart [] [] e = refl
@@ -32,4 +32,4 @@ returns c =
     let eq = slice_eq-Decides {E = nat_eq} Decides-eqb c.as_slice-2.result.now c.as_slice-3.result.now c.eq-2.result c.eq-2.ensures in
     let one = c.as_slice-2.ensures ∙ c.in_ok-words.ensures in
     let two = c.as_slice-3.ensures ∙ c.in_ok-others.ensures in
-    (λ t. words_told_apart (kept_in c.args.self.now) (kept_in c.args.other.now) (sym one ∙ eq.0 t ∙ two), λ same. eq.1 (one ∙ ap words_of same ∙ sym two))
+    (λ t. words_told_apart (kept_in c.args.state.now) (kept_in c.args.other.now) (sym one ∙ eq.0 t ∙ two), λ same. eq.1 (one ∙ ap words_of same ∙ sym two))
