@@ -52,6 +52,40 @@ module _ {Call Reply : Type 0} (history : List (Event Call Reply)) where
             | inr ne ↦ f.3 (earlier f.0 (before_at history f.0 id f.1 call limit place (omega (arith, ne, le)) f.2 at))
           ]
 
+-- what ends before a place is taken, and what ends there: so what ends before the next one is
+pub one_further : {Call Reply : Type 0} (history : List (Event Call Reply)) (counts : List ℕ) (place : ℕ) → ((a : CallId) (reply : Reply) (k : ℕ) → slice_get history k ≡ Some (End a reply) → k < place → IsTaken counts a) →
+    ((a : CallId) (reply : Reply) → slice_get history place ≡ Some (End a reply) → IsTaken counts a) → (a : CallId) (reply : Reply) (k : ℕ) → slice_get history k ≡ Some (End a reply) → k < place + 1 → IsTaken counts a
+one_further history counts place before here a reply k at lt =
+    elim (cases_lt k place) [
+      | inl less ↦ before a reply k at less
+      | inr ge ↦ let same : place ≡ k = omega (arith, lt, ge) in here a reply (ap (slice_get history) same ∙ at)
+    ]
+
+-- two histories with the same rows have the same ends at the same places, and the same limits
+module _ (history other : List (Event ObjectCall Reply)) (processes more : ℕ) (rows : Rows) (are : AreRows history processes rows) (also : AreRows other more rows) where
+  end_moved : (a : CallId) (reply : Reply) (place : ℕ) → slice_get history place ≡ Some (End a reply) → (r : Reply) × (slice_get other place ≡ Some (End a r))
+  end_moved a reply place at =
+      let every = are.every_ended a reply (contains_at history place (End a reply) at) in
+      let number = every.1 in
+      let here : call_at a.process (a.number - 1) ≡ a = same_call (call_at a.process (a.number - 1)) a refl (omega (arith, number)) in
+      let own = are.ended a.process (a.number - 1) every.2 every.3 in
+      let once = one_end history are.whole a every.2.place place (seen_reply every.2.reply) reply (subst (λ (i : CallId). slice_get history every.2.place ≡ Some (End i (seen_reply every.2.reply))) here own) at in
+      let there = also.ended a.process (a.number - 1) every.2 every.3 in
+      (seen_reply every.2.reply, ap (slice_get other) (sym once) ∙ subst (λ (i : CallId). slice_get other every.2.place ≡ Some (End i (seen_reply every.2.reply))) here there)
+
+module _ (history other : List (Event ObjectCall Reply)) (processes more : ℕ) (rows : Rows) (are : AreRows history processes rows) (also : AreRows other more rows) where
+  pub limit_moved : (counts : List ℕ) (limit : ℕ) → IsLimit history counts limit → IsLimit other counts limit
+  limit_moved counts limit is = record {
+    within = let own = is.within in let size = are.events in let as_many = also.events in omega (arith, own, size, as_many);
+    taken = λ a reply place at lt. let e = end_moved other history more processes rows also are a reply place at in is.taken a e.0 place e.1 lt;
+    first = λ lt.
+        let size = are.events in
+        let as_many = also.events in
+        let f = is.first (omega (arith, lt, size, as_many)) in
+        let e = end_moved history other processes more rows are also f.0 f.1 limit f.2 in
+        (f.0, e.0, e.1, f.3);
+  }
+
 module _ (rows : Rows) (counts : List ℕ) where
   -- the next call of a process ends with this
   abbrev pub IsNextEnd : ℕ → Ended → Type 0

@@ -66,8 +66,12 @@ impl Hints {
     /// The first process, of this one and those behind it, whose next call is wanted; where there is none, one behind all of them.
     #[inline(always)]
     pub(crate) fn first(&self, counts: &[u32], from: usize, wanted: Wanted) -> usize {
-        for process in from..counts.len() {
-            if let Some(hint) = self.at(process, counts[process] as usize) {
+        let (Some(rows), Some(left)) = (self.rows.get(from..), counts.get(from..)) else {
+            return counts.len();
+        };
+        let mut process = from;
+        for (row, count) in rows.iter().zip(left) {
+            if let Some(hint) = row.get(*count as usize) {
                 let is_wanted = match wanted {
                     Wanted::Quiet(limit) => (hint.quiet as usize) < limit,
                     Wanted::Call(call) => hint.call == call,
@@ -77,6 +81,7 @@ impl Hints {
                     return process;
                 }
             }
+            process = process.wrapping_add(1);
         }
         counts.len()
     }

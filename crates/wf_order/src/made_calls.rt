@@ -24,8 +24,7 @@ const ROWS: usize = 256;
 /// An odd number that spreads a number over its upper bits.
 pub(crate) const SPREAD: u64 = 0x9E37_79B9_7F4A_7C15;
 
-/// So many calls are looked up in vain, beyond those that are found, before none is looked up any more: of those that may write, and of those that are
-/// asked for their reply alone.
+/// So many calls that write are looked up in vain, beyond those that are found, before none is looked up any more.
 const VAIN_CALLS: usize = 256;
 
 /// What a call made of the state with these words, and its reply.
@@ -41,10 +40,8 @@ pub(crate) struct MadeCall<'a, S> {
 #[derive(Drop)]
 pub(crate) struct MadeCalls<'a, S> {
     pub rows: Vec<Option<MadeCall<'a, S>>>,
-    /// How many calls that may write may still be looked up in vain.
+    /// How many calls that write may still be looked up in vain.
     left: usize,
-    /// The same of calls that are asked for their reply.
-    asked: usize,
 }
 
 /// A scalar as a number.
@@ -96,7 +93,6 @@ pub(crate) fn no_calls<'a, S: Drop>(alloc: Global) -> Result<MadeCalls<'a, S>, A
     Ok(MadeCalls {
         rows,
         left: VAIN_CALLS,
-        asked: VAIN_CALLS,
     })
 }
 
@@ -202,15 +198,7 @@ fn make_at<'a, O: Object>(
     Ok(())
 }
 
-/// How many calls may still be looked up in vain behind one that was found or not.
-fn left_behind(left: usize, was_there: bool) -> usize {
-    if was_there {
-        return left.saturating_add(1);
-    }
-    left.saturating_sub(1)
-}
-
-/// Whether a call has this reply in a configuration's state. Where few such calls had been made, none is looked up.
+/// Whether a call has this reply in a configuration's state.
 pub(crate) fn replies_so<'a, O: Object>(
     task: &Task<'_, 'a, O>,
     found: &Found<O::State>,
@@ -223,14 +211,7 @@ pub(crate) fn replies_so<'a, O: Object>(
     ensures made { OnOk result (AreMade O.meaning O.words_of (O.effect task.now.object.now) calls.new) }
     ensures so { IfOk result (IsAsked (O.effect task.now.object.now) (seen_call call.entry) (O.meaning found.now.state) (seen_reply reply.entry)) }
 {
-    if calls.asked == 0 {
-        let to = task
-            .object
-            .outcome(task.alloc, &found.state, call, Some(reply))?;
-        return Ok(to.is_some());
-    }
-    let (row, was_there) = row_with(task, found, call, calls)?;
-    calls.asked = left_behind(calls.asked, was_there);
+    let (row, _) = row_with(task, found, call, calls)?;
     let Some(made) = made_at(calls, row) else {
         unreachable!()
     };
@@ -246,10 +227,6 @@ pub(crate) fn replies_otherwise<S>(
 ) -> bool
     ensures { IsTrue result → IsOtherwise calls.now found.now.words.items (seen_call call.entry) (seen_reply reply.entry) }
 {
-    // What may write is not looked up any more.
-    if calls.left == 0 {
-        return false;
-    }
     let Some(made) = remembered(found, call, calls) else {
         return false;
     };
@@ -277,7 +254,11 @@ pub(crate) fn outcome<'a, O: Object>(
         return task.object.outcome(task.alloc, &found.state, call, known);
     }
     let (row, was_there) = row_with(task, found, call, calls)?;
-    calls.left = left_behind(calls.left, was_there);
+    calls.left = if was_there {
+        calls.left.saturating_add(1)
+    } else {
+        calls.left.saturating_sub(1)
+    };
     let Some(made) = made_at(calls, row) else {
         unreachable!()
     };
@@ -287,6 +268,32 @@ pub(crate) fn outcome<'a, O: Object>(
         }
     }
     Ok(Some(task.object.copy(task.alloc, &made.state)?))
+}
+
+/// Whether a call is known to do the same on two configurations' states, and to have the same reply.
+fn did_so<O: Object>(
+    task: &Task<O>,
+    here: &Found<O::State>,
+    behind: &Found<O::State>,
+    call: SeenCall,
+    calls: &MadeCalls<O::State>,
+) -> Result<Option<bool>, NoMemory>
+    requires worded { IsWorded O.meaning O.words_of here.now }
+    requires behind { IsWorded O.meaning O.words_of behind.now }
+    requires made { AreMade O.meaning O.words_of (O.effect task.now.object.now) calls.now }
+    ensures { IfOk result (λ o. IfSome o (λ so. IsTrue so → DoesSo (O.effect task.now.object.now (seen_call call.entry)) (O.meaning here.now.state) (O.meaning behind.now.state))) }
+{
+    let Some(made) = remembered(here, call, calls) else {
+        return Ok(None);
+    };
+    let Some(other) = remembered(behind, call, calls) else {
+        return Ok(None);
+    };
+    if !are_equal_replies(&made.reply, &other.reply) {
+        return Ok(Some(false));
+    }
+    let same = task.object.is_same(task.alloc, &made.state, &other.state)?;
+    Ok(Some(same))
 }
 
 /// Whether a call does the same on two configurations' states, and has the same reply.
@@ -303,19 +310,14 @@ pub(crate) fn does_so<'a, O: Object>(
     ensures made { OnOk result (AreMade O.meaning O.words_of (O.effect task.now.object.now) calls.new) }
     ensures so { IfOk result (λ so. IsTrue so → DoesSo (O.effect task.now.object.now (seen_call call.entry)) (O.meaning here.now.state) (O.meaning behind.now.state)) }
 {
+    if let Some(so) = did_so(task, here, behind, call, calls)? {
+        return Ok(so);
+    }
     let _ = row_with(task, here, call, calls)?;
     let _ = row_with(task, behind, call, calls)?;
     // The second may have come to the row of the first.
-    let Some(made) = remembered(here, call, calls) else {
-        return Ok(false);
-    };
-    let Some(other) = remembered(behind, call, calls) else {
-        return Ok(false);
-    };
-    if !are_equal_replies(&made.reply, &other.reply) {
-        return Ok(false);
-    }
-    task.object.is_same(task.alloc, &made.state, &other.state)
+    let so = did_so(task, here, behind, call, calls)?;
+    Ok(so.unwrap_or(false))
 }
 
 /// A call, and its reply, if one is known.

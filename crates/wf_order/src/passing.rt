@@ -1,8 +1,9 @@
 //! Calls that only read, passed over: such a call comes as soon as it may be taken with its reply, and what lies before it is not kept.
 
-ghost use Rattle.std.specs.Prelude.{List, length, IfOk, IfSome, OnOk};
+ghost use Rattle.std.specs.Prelude.{ℕ, List, length, map, IfOk, IfSome, OnOk};
 ghost use Rattle.ob_interface.specs.Call.{ObjectCall, Reply};
 ghost use Rattle.wf_history.specs.History.{Event};
+ghost use Rattle.wf_history.specs.View.{event_of};
 ghost use Rattle.wf_order.specs.MadeCalls.{AreMade};
 ghost use Rattle.wf_order.specs.Rows.{AreRows};
 ghost use Rattle.wf_order.specs.Search.{found_in, HasNext, IsAt, IsPassed, IsReadingNext, IsWorded};
@@ -63,6 +64,7 @@ pub(crate) fn passed<'a, O: Object>(
     there: &mut Found<O::State>,
     calls: &mut MadeCalls<'a, O::State>,
 ) -> Result<usize, NoMemory>
+    requires rows { (processes : ℕ) × AreRows (map event_of task.now.events.now) processes task.now.rows.now }
     requires worded { IsWorded O.meaning O.words_of there.old }
     requires made { AreMade O.meaning O.words_of (O.effect task.now.object.now) calls.old }
     ensures made { OnOk result (AreMade O.meaning O.words_of (O.effect task.now.object.now) calls.new) }
@@ -95,7 +97,7 @@ pub(crate) fn passed<'a, O: Object>(
             id,
             limit,
         })?;
-        let next = next_limit(task.rows, &there.counts, id, limit);
+        let next = next_limit(task.events, &there.counts, limit);
         // Where no more calls may be taken than before, those of the processes before this one were asked.
         from = (next <= limit).then_some(process).unwrap_or(0);
         limit = next;

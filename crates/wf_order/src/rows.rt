@@ -1,13 +1,13 @@
 //! The calls of a history, in rows: one row for each process.
 
 ghost use Rattle.std.specs.Prelude.{◌≡◌, ◌++◌, ◌∷◌, ◌<◌, ◌≤◌, ◌^◌, ℕ, List, [], map, length, replicate, slice_set};
-ghost use Rattle.std.specs.Prelude.{Contains, IfOk, IfSome, OnOk, None, vec_len};
+ghost use Rattle.std.specs.Prelude.{◌↔◌, Contains, IfOk, IfSome, IsTrue, OnOk, None, vec_len};
 ghost use Rattle.ob_interface.specs.Call.{ObjectCall, Reply};
 ghost use Rattle.wf_history.specs.History.{Event as AnyEvent, IsHistory};
 ghost use Rattle.wf_history.specs.View.{event_of};
 ghost use Rattle.wf_order.specs.Beginnings.{needed, process_count};
 ghost use Rattle.wf_order.specs.Rows.{AreRows, AreNoted, IsOfProcesses, row_of};
-ghost use Rattle.wf_order.specs.Steps.{IsLimit, IsOneMore};
+ghost use Rattle.wf_order.specs.Steps.{IsLimit, IsOneMore, IsTaken};
 
 use ob_interface::NoMemory;
 use std::alloc::Global;
@@ -162,17 +162,32 @@ pub(crate) fn limit_of(rows: &Rows, counts: &[u32]) -> usize
     limit
 }
 
-/// The limit behind one more call, where it was this before: it moves only where that call ends there.
-pub(crate) fn next_limit(rows: &Rows, counts: &[u32], id: CallId, limit: usize) -> usize
-    requires { 0 < id.number }
-    ensures { (history : List (AnyEvent ObjectCall Reply)) (before : List ℕ) → AreRows history (length counts.now) rows.now → IsOneMore before id counts.now
-        → IsLimit history before limit → IsLimit history counts.now result }
+/// Whether a call is one of those that are counted.
+#[inline(always)]
+fn is_taken(counts: &[u32], id: CallId) -> bool
+    ensures { IsTrue result ↔ IsTaken counts.now id }
 {
-    let Some(end) = rows.ended_at(id.process, (id.number - 1) as usize) else {
-        return limit;
+    let Some(taken) = counts.get(id.process) else {
+        return false;
     };
-    if end.place != limit {
-        return limit;
+    id.number > 0 && id.number <= *taken as u64
+}
+
+/// The limit behind one more call, where it was this before: from there on the first end of a call that is not among those counted.
+pub(crate) fn next_limit(events: &[Event], counts: &[u32], limit: usize) -> usize
+    ensures { (before : List ℕ) (id : CallId) → IsOneMore before id counts.now → IsLimit (map event_of events.now) before limit
+        → IsLimit (map event_of events.now) counts.now result }
+{
+    for place in limit..events.len() {
+        match events[place].seen() {
+            SeenEvent::Begin(_, _) => continue,
+            SeenEvent::Applied(_) => continue,
+            SeenEvent::End(id, _) => {
+                if !is_taken(counts, id) {
+                    return place;
+                }
+            }
+        }
     }
-    limit_of(rows, counts)
+    events.len()
 }

@@ -105,6 +105,7 @@ fn advance_from<'a, O: Object>(
     calls: &mut MadeCalls<'a, O::State>,
 ) -> Result<Option<Vec<CallId>>, NoMemory>
     requires left { frame.next < task.now.rows.now.events }
+    requires rows { (processes : ℕ) × AreRows (map event_of task.now.events.now) processes task.now.rows.now }
     requires place { frame.place < index_set_len seen.old }
     requires worded { AreWorded O.meaning O.words_of seen.old }
     requires made { AreMade O.meaning O.words_of (O.effect task.now.object.now) calls.old }
@@ -140,7 +141,7 @@ fn advance_from<'a, O: Object>(
     } = attempt;
     let (id, mut there) = one_more(task, &here.found.counts, process, state)?;
     stack.push(Frame { next, id, ..frame })?;
-    let limit = next_limit(task.rows, &there.counts, id, frame.limit);
+    let limit = next_limit(task.events, &there.counts, frame.limit);
     let limit = passed(task, stack, Frame { limit, ..frame }, &mut there, calls)?;
     let way = Way {
         place: frame.place,
@@ -163,6 +164,7 @@ pub(crate) fn advance<'a, O: Object>(
     frame: Frame,
     calls: &mut MadeCalls<'a, O::State>,
 ) -> Result<Option<Vec<CallId>>, NoMemory>
+    requires rows { (processes : ℕ) × AreRows (map event_of task.now.events.now) processes task.now.rows.now }
     requires place { frame.place < index_set_len seen.old }
     requires worded { AreWorded O.meaning O.words_of seen.old }
     requires made { AreMade O.meaning O.words_of (O.effect task.now.object.now) calls.old }

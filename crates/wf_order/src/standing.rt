@@ -37,21 +37,23 @@ fn found_before<'s, O: Object>(
 ) -> Result<Option<&'s Found<O::State>>, NoMemory>
     ensures { IfOk result (λ o. IfSome o (λ first. IsBeforePlace seen.now.keys place first.now)) }
 {
-    let alloc = task.alloc;
-    let mut counts = SmallVec::from_slice(alloc, there.counts.as_slice())?;
-    let Some(count) = counts.get_mut(process) else {
+    let Some(taken) = there.counts.get(process) else {
         return Ok(None);
     };
-    let Some(less) = count.checked_sub(1) else {
+    let Some(less) = taken.checked_sub(1) else {
         return Ok(None);
     };
-    *count = less;
     // A call that only reads has come as soon as it might.
     let Some(begun) = task.rows.begun_at(process, less as usize) else {
         return Ok(None);
     };
     if task.object.is_reader(begun.call) {
         return Ok(None);
+    }
+    let alloc = task.alloc;
+    let mut counts = SmallVec::from_slice(alloc, there.counts.as_slice())?;
+    if let Some(count) = counts.get_mut(process) {
+        *count = less;
     }
     let words = SmallVec::from_slice(alloc, there.words.as_slice())?;
     let state = task.object.copy(alloc, &there.state)?;

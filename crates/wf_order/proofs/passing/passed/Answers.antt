@@ -4,16 +4,18 @@ use Rattle.std.proofs.lemmas.List.{append-nil, map-append}
 use Rattle.std.proofs.lemmas.List.Elements.{Contains-push_cases}
 use Rattle.std.specs.List.{Contains}
 use Rattle.wf_history.specs.declared.event.CallId.{CallId}
+use Rattle.wf_history.specs.View.{event_of}
 use Rattle.wf_history.proofs.Positions.{place_of}
 use Rattle.wf_order.specs.declared.search.Frame.{Frame}
 use Rattle.wf_order.specs.Rows.{AreRows, begun_rows, call_at}
 use Rattle.wf_order.specs.Rules.{Passes, none_passed}
 use Rattle.wf_order.specs.Search.{found_in, HasNext, IsReadingNext, ids_of, left}
-use Rattle.wf_order.specs.Steps.{Configuration, IsLimit, one_more}
+use Rattle.wf_order.specs.Steps.{Configuration, IsLimit, IsOneMore, one_more}
 use Rattle.wf_order.proofs.Lists.{same_configuration}
 use Rattle.wf_order.proofs.Searching.{passes_push}
 use Rattle.wf_order.proofs.Stepping.{some_at}
 use Rattle.wf_order.proofs.Weights.{left_next}
+use Rattle.wf_order.proofs.Limits.{limit_moved}
 use Rattle.wf_order.proofs.passing.passed.Goals as goal
 
 nothing : (f : Frame) → Contains [] f → ⊥
@@ -79,10 +81,14 @@ loop-process-preserved g c =
                 (subst (λ (d : Configuration g.O.Object.Meaning). Passes effect history from (ids_of p.frames ++ frame.id ∷ []) d) to named);
           };
       limit = λ history are bound.
-          let own = subst (λ (n : ℕ). AreRows history n rows) (sym (ap length c.deref.ensures ∙ size ∙ old.sized)) are in
           let next = some_at (HasNext rows counts) c.in_ok-process.field-0 process c.in-Some.is c.in_ok-process.ensures.next in
+          let events = map event_of c.args.task.now.events.now in
+          let own = c.requires.rows in
+          let more : IsOneMore counts frame.id c.deref.result.now =
+          record { within = next.0; number = c.in_ok-number.ensures.number; is = c.deref.ensures ∙ set_is ∙ ap (set counts process) (sym c.in_ok-number.ensures.number) } in
+          let there = c.next_limit-next.ensures counts frame.id more (limit_moved history events (length c.args.there.now.counts.items) own.0 rows are own.1 counts c.loop-process.limit (old.limit history are bound)) in
           subst (λ (xs : List ℕ). IsLimit history xs c.next_limit-next.result) c.deref.ensures
-          (c.next_limit-next.ensures history counts own (record { within = next.0; number = c.in_ok-number.ensures.number; is = c.deref.ensures ∙ set_is ∙ ap (set counts process) (sym c.in_ok-number.ensures.number) }) (old.limit history are bound));
+          (limit_moved events history own.0 (length c.args.there.now.counts.items) rows own.1 are c.deref.result.now c.next_limit-next.result there);
     }
 
 pub returns-clause-passed : goal.returns-clause-passed

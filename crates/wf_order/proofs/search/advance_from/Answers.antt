@@ -1,14 +1,16 @@
 -- One try, by what `chosen` and `arrive` say.
-use Rattle.std.proofs.Common.{sym, ap, refl, ◌∙◌, subst, ℕ, ◌<◌, List, length, set, option_map, arith}
+use Rattle.std.proofs.Common.{sym, ap, refl, ◌∙◌, subst, ℕ, ◌<◌, List, length, map, set, option_map, arith}
 use Rattle.std.proofs.lemmas.Option.{MatchOption-at_none, MatchOption-at_some, slice_get-map}
 use Rattle.wf_history.proofs.Positions.{contains_at, one_item}
 use Rattle.wf_history.specs.declared.event.CallId.{CallId}
+use Rattle.wf_history.specs.View.{event_of}
 use Rattle.wf_order.specs.declared.search.Frame.{Frame}
 use Rattle.wf_order.specs.Rows.{AreRows}
 use Rattle.wf_order.specs.Rules.{IsAnswered}
 use Rattle.wf_order.specs.Search.{found_in, all_found, AreAllAnswered, IsChoice, IsLed}
 use Rattle.wf_order.specs.Steps.{Configuration, IsLimit, IsOneMore, IsStep}
 use Rattle.wf_order.proofs.Arriving.{chosen_tried, top_at, step_rows, after_pop, concluded, stood_for}
+use Rattle.wf_order.proofs.Limits.{limit_moved}
 use Rattle.wf_order.proofs.Searching.{led_on, passes_size}
 use Rattle.wf_order.proofs.Stepping.{some_at}
 use Rattle.wf_order.proofs.search.advance_from.Goals as goal
@@ -59,8 +61,12 @@ returns-clause-search g c = λ history processes exact start are h.
       number = t.step.number;
       is = ap (λ (d : Configuration g.O.Object.Meaning). d.counts) c.in_ok-id.ensures.found ∙ ap (λ (i : CallId). set here.counts i.process i.number) (sym c.in_ok-id.ensures.id);
     } in
+    let event_rows = c.requires.rows in
+    let events_of = map event_of c.args.task.now.events.now in
     let bound = subst (λ (xs : List ℕ). IsLimit history xs c.next_limit-limit.result) c.deref-2.ensures
-    (c.next_limit-limit.ensures history here.counts (subst (λ (xs : List ℕ). AreRows history (length xs) rows) (sym c.deref-2.ensures) own_rows) (subst (λ (xs : List ℕ). IsOneMore here.counts tried.id xs) (sym c.deref-2.ensures) more) is_at.1) in
+    (limit_moved events_of history event_rows.0 processes rows event_rows.1 are c.deref-2.result.now c.next_limit-limit.result
+    (c.next_limit-limit.ensures here.counts tried.id (subst (λ (xs : List ℕ). IsOneMore here.counts tried.id xs) (sym c.deref-2.ensures) more)
+    (limit_moved history events_of processes event_rows.0 rows are event_rows.1 here.counts c.args.frame.limit is_at.1))) in
     let passes = c.in_ok-limit.ensures.passed history own_rows bound in
     let there = c.passed.new.there in
     let size = passes_size effect history passes.passes in
@@ -98,8 +104,12 @@ returns-then-branch-clause-search g c = λ history processes exact start are h.
       number = t.step.number;
       is = ap (λ (d : Configuration g.O.Object.Meaning). d.counts) c.in_ok-id.ensures.found ∙ ap (λ (i : CallId). set here.counts i.process i.number) (sym c.in_ok-id.ensures.id);
     } in
+    let event_rows = c.requires.rows in
+    let events_of = map event_of c.args.task.now.events.now in
     let bound = subst (λ (xs : List ℕ). IsLimit history xs c.next_limit-limit.result) c.deref-2.ensures
-    (c.next_limit-limit.ensures history here.counts (subst (λ (xs : List ℕ). AreRows history (length xs) rows) (sym c.deref-2.ensures) own_rows) (subst (λ (xs : List ℕ). IsOneMore here.counts tried.id xs) (sym c.deref-2.ensures) more) is_at.1) in
+    (limit_moved events_of history event_rows.0 processes rows event_rows.1 are c.deref-2.result.now c.next_limit-limit.result
+    (c.next_limit-limit.ensures here.counts tried.id (subst (λ (xs : List ℕ). IsOneMore here.counts tried.id xs) (sym c.deref-2.ensures) more)
+    (limit_moved history events_of processes event_rows.0 rows are event_rows.1 here.counts c.args.frame.limit is_at.1))) in
     let passes = c.in_ok-limit.ensures.passed history own_rows bound in
     let there = c.passed.new.there in
     let size = passes_size effect history passes.passes in
