@@ -8,8 +8,8 @@ use Rattle.ob_checked.specs.Types.{Entry}
 use Rattle.ob_checked.specs.View.{variable_of}
 use Rattle.ob_checked.specs.declared.program.Variable as Declared
 use Rattle.ob_code_calls.specs.Calls.{IsMade, IsMadeThrough, block_behind, meaning_of}
+use Rattle.ob_code_calls.specs.Led.{reply_behind}
 use Rattle.ob_code_calls.specs.Scalars.{AreBehind, IsCodeWith, held_of}
-use Rattle.ob_code_calls.specs.Wanted.{reply_behind}
 use Rattle.ob_code_correct.proofs.CodeLaw.{lawful_decoded}
 use Rattle.ob_code_correct.specs.CodeMeaning.{EngineParts}
 use Rattle.ob_code_correct.specs.Parts.{IsLawfulFor}

@@ -6,7 +6,6 @@
 
 pub mod block_calls;
 mod fitting_arguments;
-pub mod known_reply;
 mod laid_calls;
 mod noted_calls;
 pub mod room;
@@ -17,7 +16,6 @@ pub mod standing_state;
 mod wanted_values;
 
 pub use block_calls::CodeCalls;
-pub use known_reply::KnownReply;
 pub use room::Room;
-pub use scalar_calls::{Led, Request, ScalarCalls, Wanted};
+pub use scalar_calls::{Led, Request, ScalarCalls};
 pub use standing_state::CodedState;

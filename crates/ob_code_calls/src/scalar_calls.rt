@@ -12,6 +12,7 @@ use ob_interface::scalar::Scalar;
 use smallvec::SmallVec;
 use std::alloc::Global;
 use std::cell::Cell;
+use wf_history::SeenReply;
 
 /// What a call works in: room, and the words of the variables.
 #[derive(Drop)]
@@ -41,29 +42,18 @@ impl Drop for ScalarCalls {
     }
 }
 
-/// The reply that is wanted of a call.
+/// A call by its export's number, and its reply, if one is known.
 #[derive(Clone, Copy)]
-pub enum Wanted<'a> {
-    /// Any.
-    Any,
-    /// These values.
-    Values(&'a [Scalar]),
-    /// This trap.
-    Trap(u8),
-}
-
-/// A call by its export's number, and the reply that is wanted of it.
-#[derive(Clone, Copy)]
-pub struct Request<'a, 'w> {
+pub struct Request<'a> {
     pub proc: usize,
     pub arguments: &'a [Scalar],
-    pub wanted: Wanted<'w>,
+    pub known: Option<SeenReply<'a>>,
 }
 
-/// What comes of a call of which a reply is wanted.
+/// What comes of a call whose reply may be known.
 #[derive(Drop)]
 pub enum Led {
-    /// It has that reply, and leads to variables with these values.
+    /// It has the reply that is known, if one is, and leads to variables with these values.
     To(Scalars),
     /// It has another one.
     Elsewhere,
@@ -72,17 +62,18 @@ pub enum Led {
 }
 
 impl ScalarCalls {
-    ghost use Rattle.std.specs.Prelude.{List, IfOk, IfSome, map};
+    ghost use Rattle.std.specs.Prelude.{List, IfOk, IfSome, map, option_map};
     ghost use Rattle.ob_checked.specs.Types.{Entry};
     ghost use Rattle.ob_checked.specs.View.{variable_of};
     ghost use Rattle.ob_code_calls.specs.Calls.{asked};
+    ghost use Rattle.ob_code_calls.specs.Led.{IsLed, reply_behind};
     ghost use Rattle.ob_code_calls.specs.Parts.{IsRoomFor};
     ghost use Rattle.ob_code_calls.specs.Scalars.{AreBehind, IsCodeWith, IsMadeOf, IsMadeOn};
-    ghost use Rattle.ob_code_calls.specs.Wanted.{IsLed, IsWanted, reply_behind};
     ghost use Rattle.ob_code_correct.specs.Parts.{IsCompiledTo};
     ghost use Rattle.ob_interface.specs.View.{reply_of};
     ghost use Rattle.ob_interface.specs.declared.scalar.Scalar as Scalars;
     ghost use Rattle.ob_typing.specs.Program.{Program};
+    ghost use Rattle.wf_history.specs.View.{seen_reply};
 
     /// Calls of this code, on states of so many words.
     pub fn new(alloc: Global, calls: CodeCalls, words: usize) -> ScalarCalls
@@ -164,17 +155,28 @@ impl ScalarCalls {
         }
     }
 
-    /// Whether a call of an export has the reply that is wanted, of which the body has returned, or trapped so.
+    /// Whether a call of an export, of which the body has returned, or trapped so, has the reply that is known, if one is.
     #[inline(always)]
-    fn is_wanted(&self, room: &Room, proc: usize, trap: Option<u8>, wanted: Wanted) -> bool
+    fn has_known_reply(
+        &self,
+        room: &Room,
+        proc: usize,
+        trap: Option<u8>,
+        known: Option<SeenReply>,
+    ) -> bool
         requires { IsRoomFor (parts_in self.now.calls) room.now }
-        ensures { (arguments : List Scalars.Scalar)
-            → IsTrue result ↔ IsWanted wanted.entry (reply_behind (parts_in self.now.calls) (asked proc arguments) room.now.run trap) }
+        ensures { (arguments : List Scalars.Scalar) → IsTrue result
+            ↔ IfSome (option_map seen_reply known.entry) (λ x. x ≡ reply_behind (parts_in self.now.calls) (asked proc arguments) room.now.run trap) }
     {
-        match (wanted, trap) {
-            (Wanted::Any, _) => true,
-            (Wanted::Values(values), None) => self.calls.has_replied(room, proc, values),
-            (Wanted::Trap(number), Some(other)) => number == other,
+        let Some(reply) = known else {
+            return true;
+        };
+        match (reply, trap) {
+            (SeenReply::Done(values), None) => {
+                let lent = values.lent();
+                self.calls.has_replied(room, proc, lent.as_slice())
+            }
+            (SeenReply::Trap(number), Some(other)) => number == other,
             _ => false,
         }
     }
@@ -207,7 +209,7 @@ impl ScalarCalls {
         Ok(Some((after, reply)))
     }
 
-    /// What comes of a call on variables with these values, of which a reply is wanted. Where it has another one, nothing is read.
+    /// What comes of a call on variables with these values, whose reply may be known. Where it has another one, nothing is read.
     #[inline(always)]
     pub fn led(
         &self,
@@ -217,17 +219,18 @@ impl ScalarCalls {
     ) -> Result<Led, NoMemory>
         requires { ∥ IsCodeWith variables.now (parts_in self.now.calls) ∥₁ }
         ensures { (program : Program) (types : List Entry) → IsCompiledTo program (parts_in self.now.calls) → map (variable_of types) variables.now ≡ program.variables
-            → IfOk result (IsLed program (parts_in self.now.calls) (asked request.entry.proc request.entry.arguments.now) scalars.now request.entry.wanted) }
+            → IfOk result (IsLed program (parts_in self.now.calls) (asked request.entry.proc request.entry.arguments.now) scalars.now
+            (option_map seen_reply request.entry.known)) }
     {
         let Request {
             proc,
             arguments,
-            wanted,
+            known,
         } = request;
         let Some((work, trap)) = self.made(variables, scalars, proc, arguments)? else {
             return Ok(Led::Nowhere);
         };
-        if !self.is_wanted(&work.room, proc, trap, wanted) {
+        if !self.has_known_reply(&work.room, proc, trap, known) {
             self.work.set(Some(work));
             return Ok(Led::Elsewhere);
         }

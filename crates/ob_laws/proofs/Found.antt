@@ -34,8 +34,8 @@ use Rattle.ob_text_reading.specs.HistoryLines.{HistoryTold}
 use Rattle.ob_laws.specs.Writable.{AreCarried, IsCounted, IsNamed, IsReplyOf, IsWritable, IsWritableEvent, LegalIsVerified}
 use Rattle.ob_typing.specs.ModuleText.{IsModule}
 use Rattle.ob_typing.specs.Program.{Program}
-use Rattle.wf_order.proofs.Counted.{needed_within}
-use Rattle.wf_order.specs.Beginnings.{needed}
+use Rattle.wf_lookup.proofs.Counted.{needed_within}
+use Rattle.wf_lookup.specs.Beginnings.{needed}
 use Rattle.wf_history.proofs.Positions.{place_of}
 use Rattle.wf_history.specs.declared.event.CallId.{CallId}
 use Rattle.wf_history.specs.History.{Event, Begin, Applied, End, IsHistory, own_calls}

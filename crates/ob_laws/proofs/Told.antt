@@ -13,7 +13,7 @@ use Rattle.ob_text_reading.specs.RecordLines as Heads
 use Rattle.ob_text_reading.specs.RecordLines.{IsBudget, IsEvent, IsId, Line}
 use Rattle.ob_text_words.specs.Words.{Word}
 use Rattle.ob_typing.specs.Program.{Program}
-use Rattle.wf_order.specs.Beginnings.{process_count}
+use Rattle.wf_lookup.specs.Beginnings.{process_count}
 use Rattle.wf_history.specs.declared.event.CallId.{CallId}
 use Rattle.wf_history.specs.History.{Event, Begin, Applied, End, IsHistory}
 

@@ -20,12 +20,12 @@ use Rattle.ob_picture_chart.specs.Charts.{begun}
 use Rattle.ob_picture_chart.specs.Moments.{place_in, placed_from}
 use Rattle.ob_text_reading.specs.RecordLines.{Line}
 use Rattle.ob_typing.specs.Program.{Program}
-use Rattle.wf_order.specs.Beginnings.{begun_calls, needed, process_count}
+use Rattle.wf_lookup.specs.Beginnings.{begun_calls, needed, process_count}
 use Rattle.wf_history.specs.History.{Event, Begin, Applied, End, IsHistory}
 use Rattle.wf_history.specs.declared.event.CallId.{CallId}
 use Rattle.wf_order.proofs.Beginnings.{legal_taken, taken_few}
-use Rattle.wf_order.proofs.Turns.{take_whole}
-use Rattle.wf_order.specs.Rows.{AreOfProcesses, IsOfProcesses}
+use Rattle.wf_lookup.proofs.Turns.{take_whole}
+use Rattle.wf_lookup.specs.Beginnings.{AreOfProcesses, IsOfProcesses}
 use Rattle.wf_order.specs.Verdict.{HasLegal}
 
 abbrev Events : Type 0

@@ -15,7 +15,7 @@ use Rattle.ob_picture_chart.specs.declared.charts.CallRange.{CallRange}
 use Rattle.ob_picture_chart.specs.declared.fault.PictureFault.{PictureFault}
 use Rattle.ob_picture_chart.specs.declared.fault.PictureFault.TheVariants as Pictures
 use Rattle.ob_typing.specs.Program.{Program}
-use Rattle.wf_order.specs.Beginnings.{process_count}
+use Rattle.wf_lookup.specs.Beginnings.{process_count}
 use Rattle.wf_history.specs.History.{Event}
 
 abbrev Events : Type 0

@@ -22,7 +22,7 @@ use Rattle.ob_text_reading.specs.Names.{named_all}
 use Rattle.ob_text_reading.specs.HistoryContents.{told_of}
 use Rattle.ob_picture_chart.specs.declared.charts.CallRange.{CallRange}
 use Rattle.ob_typing.specs.Program.{Program}
-use Rattle.wf_order.specs.Beginnings.{process_count}
+use Rattle.wf_lookup.specs.Beginnings.{process_count}
 use Rattle.wf_history.specs.History.{Event}
 use Rattle.wf_history.specs.declared.event.CallId.{CallId}
 

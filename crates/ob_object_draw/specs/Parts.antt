@@ -14,7 +14,7 @@ use Rattle.ob_object_draw.specs.declared.shown_history.Shown.{Shown}
 use Rattle.ob_object_calls.specs.Beginnings.{BeginsPlaced}
 use Rattle.ob_meaning.specs.ByPositionStore.{Activation}
 use Rattle.ob_typing.specs.Program.{Program}
-use Rattle.wf_order.specs.Beginnings.{process_count}
+use Rattle.wf_lookup.specs.Beginnings.{process_count}
 use Rattle.wf_history.specs.History.{Event, End}
 use Rattle.wf_history.specs.Legal.{IsLegal}
 use Rattle.wf_history.specs.declared.event.CallId.{CallId}

@@ -17,7 +17,7 @@ use ob_object_search::order_recording::Heard;
 use ob_object_search::{ModuleObject, Search};
 use std::alloc::Global;
 use wf_history::History;
-use wf_order::process_count;
+use wf_lookup::process_count;
 
 /// The events of a history, how many processes they need, and which of them are shown.
 #[derive(Drop)]

@@ -1,16 +1,15 @@
 -- What code makes of scalars is what the call makes of their state.
 use Rattle.std.proofs.Common.{◌≡◌, ◌∙◌, ap, refl, sym, subst, ℕ, List, [], ◌∷◌, map, Some, None, arith}
-use Rattle.std.specs.Prelude.{Option, IfSome, ◌↔◌}
+use Rattle.std.specs.Prelude.{Option, IfSome}
 use Rattle.std.specs.Coded.{Coded, Coded-set, coded×, coded_list, coded_ℕ}
 use Rattle.std.proofs.Math.Logic.{∥∥₁_elim, ∥∥₁_map}
 use base.Stored.{coded_via}
+use Rattle.ob_code_calls.specs.Led.{IsLed}
 use Rattle.ob_code_calls.specs.Parts.{parts_in}
 use Rattle.ob_code_calls.specs.Scalars.{IsMadeOf, held_of}
-use Rattle.ob_code_calls.specs.Wanted.{IsLed, IsWanted}
 use Rattle.ob_code_calls.specs.declared.scalar_calls.Led.{Led}
 use Rattle.ob_code_calls.specs.declared.scalar_calls.Led.TheVariants as Leds
 use Rattle.ob_code_calls.specs.declared.scalar_calls.ScalarCalls.{ScalarCalls}
-use Rattle.ob_code_calls.specs.declared.scalar_calls.Wanted.{Wanted}
 use Rattle.ob_code_correct.specs.CodeMeaning.{EngineParts}
 use Rattle.ob_code_correct.specs.Compiled.{parts_of}
 use Rattle.ob_code_scheme.specs.WellFormed.{IsWellFormed}
@@ -90,19 +89,17 @@ module _ (program : Program) (parts : EngineParts) (budget : ℕ) where
       (subst (λ (x : ObjectCall). CallEnds program parts.budget x state (map held_of after) reply) same
       (subst (λ (s : Activation). CallEnds program parts.budget asked s (map held_of after) reply) is made))
 
--- ---- where it leads with a reply that is wanted
+-- ---- where it leads with a reply that may be known
 
-coded_reply : Coded Reply
+pub coded_reply : Coded Reply
 coded_reply = coded_via (coded_list coded_ℕ) reply_words replies_apart
 
--- where a reply that isn't wanted comes, another one is known
-other_known : (wanted : Wanted) (known : Option Reply) → ((r : Reply) → IsWanted wanted r ↔ IfSome known (λ x. x ≡ r)) → (r : Reply) → ¬ IsWanted wanted r →
-    (x : Reply) × (known ≡ Some x) × (x ≡ r → ⊥)
-other_known wanted None is r not = absurd (not ((is r).1 tt))
-other_known wanted (Some x) is r not = (x, refl, λ e. not ((is r).1 e))
+-- where a reply comes that isn't the known one, another one is known
+other_known : (known : Option Reply) (r : Reply) → ¬ IfSome known (λ x. x ≡ r) → (x : Reply) × (known ≡ Some x) × (x ≡ r → ⊥)
+other_known None r not = absurd (not tt)
+other_known (Some x) r not = (x, refl, not)
 
-module _ (program : Program) (budget : ℕ) (code : ScalarCalls) (has : ∥ HasCode program budget code ∥₁) (asked call : ObjectCall) (same : asked ≡ call) (scalars : List Scalar) (wanted : Wanted) (known : Option Reply)
-    (is : (r : Reply) → IsWanted wanted r ↔ IfSome known (λ x. x ≡ r)) where
+module _ (program : Program) (budget : ℕ) (code : ScalarCalls) (has : ∥ HasCode program budget code ∥₁) (asked call : ObjectCall) (same : asked ≡ call) (scalars : List Scalar) (known : Option Reply) where
   -- what the call comes to
   abbrev ends : Effect
   ends = effect program call budget (map held_of scalars)
@@ -110,24 +107,25 @@ module _ (program : Program) (budget : ℕ) (code : ScalarCalls) (has : ∥ HasC
   ends_so : HasCode program budget code → effect program asked (parts_in code.calls).budget (map held_of scalars) ≡ ends
   ends_so h = ap (λ (b : ℕ). effect program asked b (map held_of scalars)) h.turns ∙ ap (λ (x : ObjectCall). effect program x budget (map held_of scalars)) same
 
-  replies_so : (k : Option Reply) → known ≡ k → (HasCode program budget code → IsWanted wanted ends.reply) → IfSome k (λ x. x ≡ ends.reply)
-  replies_so None so replies = tt
-  replies_so (Some x) so replies = ∥∥₁_elim has (Coded-set coded_reply _ _) (λ h. subst (λ (k : Option Reply). IfSome k (λ y. y ≡ ends.reply)) so ((is ends.reply).0 (replies h)))
+  replies_so : (k : Option Reply) → (HasCode program budget code → IfSome k (λ x. x ≡ ends.reply)) → IfSome k (λ x. x ≡ ends.reply)
+  replies_so None replies = tt
+  replies_so (Some x) replies = ∥∥₁_elim has (Coded-set coded_reply _ _) replies
 
-  led_so : (led : Led) → (HasCode program budget code → IsLed program (parts_in code.calls) asked scalars wanted led) → IsLedSo (CallEnds program budget call) (map held_of scalars) known led
+  led_so : (led : Led) → (HasCode program budget code → IsLed program (parts_in code.calls) asked scalars known led) → IsLedSo (CallEnds program budget call) (map held_of scalars) known led
   led_so (Leds.To after) f = (
     ends.reply,
     ∥∥₁_elim has (Coded-set coded_effect _ _) (λ h. ap (λ (s : Activation). record { state = s; reply = ends.reply }) (ap (λ (e : Effect). e.state) (sym (ends_so h)) ∙ (f h).0)),
-    replies_so known refl (λ h. subst (λ (e : Effect). IsWanted wanted e.reply) (ends_so h) (f h).1),
+    replies_so known (λ h. subst (λ (e : Effect). IfSome known (λ x. x ≡ e.reply)) (ends_so h) (f h).1),
   )
   led_so Leds.Elsewhere f =
-      let not_wanted : ¬ IsWanted wanted ends.reply = λ w. ∥∥₁_elim has (λ a b. absurd a) (λ h. f h (subst (λ (e : Effect). IsWanted wanted e.reply) (sym (ends_so h)) w)) in
-      let it = other_known wanted known is ends.reply not_wanted in
+      let other : ¬ IfSome known (λ x. x ≡ ends.reply) =
+      λ is. ∥∥₁_elim has (λ a b. absurd a) (λ h. f h (subst (λ (e : Effect). IfSome known (λ x. x ≡ e.reply)) (sym (ends_so h)) is)) in
+      let it = other_known known ends.reply other in
       (ends.state, ends.reply, refl, it.0, it.1, it.2)
   led_so Leds.Nowhere f = tt
 
   -- the same of the state that holds the scalars, and of what comes of the call by another name
-  pub led_as : (state : Activation) → map held_of scalars ≡ state → (led : Led) → (HasCode program budget code → IsLed program (parts_in code.calls) asked scalars wanted led) → (came : Led) → led ≡ came →
+  pub led_as : (state : Activation) → map held_of scalars ≡ state → (led : Led) → (HasCode program budget code → IsLed program (parts_in code.calls) asked scalars known led) → (came : Led) → led ≡ came →
       IsLedSo (CallEnds program budget call) state known came
   led_as state holds led f came named =
       subst (λ (l : Led). IsLedSo (CallEnds program budget call) state known l) named (subst (λ (s : Activation). IsLedSo (CallEnds program budget call) s known led) holds (led_so led f))

@@ -7,7 +7,7 @@ use Rattle.ob_text_reading.proofs.Naming.{named_history}
 use Rattle.ob_text_reading.specs.Names.{AreApart, AreBelow, named, named_all}
 use Rattle.wf_history.proofs.Positions.{take_next}
 use Rattle.wf_history.specs.History.{Event, IsHistory}
-use Rattle.wf_order.proofs.Turns.{take_whole}
+use Rattle.wf_lookup.proofs.Turns.{take_whole}
 
 module _ (names : List ℕ) (apart : AreApart names) (history : List (Event ObjectCall Reply)) (below : AreBelow (length names) history) (whole : IsHistory history)
     (k : ℕ) (e : Event ObjectCall Reply) (here : slice_get history k ≡ Some e) where

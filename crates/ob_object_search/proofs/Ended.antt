@@ -7,7 +7,7 @@ use Rattle.std.specs.List.{slice_get}
 use Rattle.ob_interface.specs.Call.{ObjectCall, Reply}
 use Rattle.ob_object_search.specs.EndEvidence.{EndsNowhere}
 use Rattle.ob_text_reading.specs.Names.{named, named_all}
-use Rattle.wf_order.proofs.Nexts.{next_whole}
+use Rattle.wf_lookup.proofs.Nexts.{next_whole}
 use Rattle.wf_history.proofs.Positions.{place_of}
 use Rattle.wf_history.proofs.Turns.{own_events-push}
 use Rattle.wf_history.specs.History.{Event, End, IsHistory, OwnEvent, in_turn, own_events}

@@ -19,8 +19,8 @@ use Rattle.wf_history.proofs.Positions.{place_in_take, place_push}
 use Rattle.wf_history.specs.Legal.{IsLegal}
 use Rattle.wf_history.specs.declared.event.CallId.{CallId}
 use Rattle.wf_needed.specs.Needed.{NoneIsNeedless}
-use Rattle.wf_order.proofs.Turns.{slice_get_some}
-use Rattle.wf_order.specs.Rows.{AreOfProcesses}
+use Rattle.wf_lookup.proofs.Turns.{slice_get_some}
+use Rattle.wf_lookup.specs.Beginnings.{AreOfProcesses}
 use Rattle.wf_order.specs.Verdict.{IsVerdict, enough}
 use Rattle.wf_order.specs.declared.find.Verdict.{Verdict}
 use Rattle.wf_order.specs.declared.find.Verdict.TheVariants as Verdicts

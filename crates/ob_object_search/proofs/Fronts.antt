@@ -16,7 +16,7 @@ use Rattle.wf_history.proofs.Positions.{contains_at, place_of, place_take}
 use Rattle.wf_history.specs.History.{Event, Begin, Applied, End, IsHistory}
 use Rattle.wf_history.specs.declared.event.CallId.{CallId}
 use Rattle.wf_order.proofs.Beginnings.{legal_taken}
-use Rattle.wf_order.specs.Rows.{IsOfProcesses}
+use Rattle.wf_lookup.specs.Beginnings.{IsOfProcesses}
 use Rattle.wf_order.specs.Verdict.{HasLegal, HasMore, HasMoreFront}
 
 -- the first events of first ones

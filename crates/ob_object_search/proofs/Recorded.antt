@@ -12,7 +12,7 @@ use Rattle.ob_object_search.specs.declared.searching.SearchFault.{SearchFault}
 use Rattle.ob_object_search.specs.Heard.{IsHeard}
 use Rattle.ob_object_search.specs.RecordingFaults.{HasManyProcesses}
 use Rattle.ob_object_search.specs.SearchRecords.{IsHistoryRecord, IsSame}
-use Rattle.wf_order.specs.Beginnings.{process_count}
+use Rattle.wf_lookup.specs.Beginnings.{process_count}
 use Rattle.ob_object_search.specs.declared.order_recording.Heard as Rust
 use Rattle.ob_object_calls.specs.Beginnings.{BeginsPlaced, TrapsPlaced}
 use Rattle.ob_meaning.specs.ByPositionStore.{Activation}

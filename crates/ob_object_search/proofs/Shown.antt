@@ -21,7 +21,7 @@ use Rattle.ob_store.specs.View.{state_of}
 use Rattle.ob_text_reading.specs.Names.{AreApart, AreBelow, IsBelow, named, named_all, named_id}
 use Rattle.ob_text_reading.specs.HistoryContents.{told_of}
 use Rattle.ob_typing.specs.Program.{Program}
-use Rattle.wf_order.specs.Beginnings.{open_calls}
+use Rattle.wf_lookup.specs.Beginnings.{open_calls}
 use Rattle.wf_history.proofs.Positions.{contains_at}
 use Rattle.wf_history.specs.History.{Event, End}
 use Rattle.wf_history.specs.Legal.{IsLegal}

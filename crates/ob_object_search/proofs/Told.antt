@@ -27,7 +27,7 @@ use Rattle.ob_typing.specs.Program.{Program}
 use Rattle.wf_history.specs.declared.event.CallId.{CallId}
 use Rattle.wf_history.specs.Legal.{IsLegal}
 use Rattle.wf_needed.specs.Needed.{NoneIsNeedless}
-use Rattle.wf_order.proofs.Turns.{slice_get_some}
+use Rattle.wf_lookup.proofs.Turns.{slice_get_some}
 use Rattle.wf_parts.specs.Numbering.{ArePartsOf, PartView, value_of, whole_event}
 use Rattle.wf_parts.specs.Parts.{AreValues, Events, IsPart, IsShort}
 

@@ -14,7 +14,7 @@ use Rattle.wf_history.specs.History.{Event, Begin, Applied, End}
 use Rattle.wf_history.specs.Legal.{IsLegal}
 use Rattle.wf_history.specs.declared.event.CallId.{CallId}
 use Rattle.wf_needed.specs.Needed.{NoneIsNeedless}
-use Rattle.wf_order.specs.Rows.{AreOfProcesses, IsOfProcesses}
+use Rattle.wf_lookup.specs.Beginnings.{AreOfProcesses, IsOfProcesses}
 use Rattle.wf_order.specs.Verdict.{IsVerdict, enough}
 use Rattle.wf_order.specs.declared.find.Verdict.{Verdict}
 use Rattle.wf_order.specs.declared.find.Verdict.TheVariants as Verdicts

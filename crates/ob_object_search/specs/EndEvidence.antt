@@ -10,7 +10,7 @@ use Rattle.ob_meaning.specs.ByPositionStore.{Activation}
 use Rattle.ob_text_reading.specs.HistoryLines.{HistoryTold, IsHistoryText}
 use Rattle.ob_typing.specs.ModuleText.{IsModule}
 use Rattle.ob_typing.specs.Program.{Program}
-use Rattle.wf_order.specs.Beginnings.{open_calls}
+use Rattle.wf_lookup.specs.Beginnings.{open_calls}
 use Rattle.wf_history.specs.History.{Event, End}
 use Rattle.wf_history.specs.Legal.{IsLegal}
 use Rattle.wf_history.specs.declared.event.CallId.{CallId}

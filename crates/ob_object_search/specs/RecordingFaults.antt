@@ -7,7 +7,7 @@ use Rattle.ob_object_search.specs.Searched.{HasBeginning}
 use Rattle.ob_object_search.specs.SearchFaults as Search
 use Rattle.ob_object_search.specs.SearchFaults.{HasSearchFault, IsSearchFault, IsUndecided, of_text}
 use Rattle.ob_object_search.specs.declared.searching.SearchFault.TheVariants as SearchFaults
-use Rattle.wf_order.specs.Beginnings.{process_count}
+use Rattle.wf_lookup.specs.Beginnings.{process_count}
 use Rattle.ob_object_search.specs.declared.order_recording.RecordingFault.{RecordingFault}
 use Rattle.ob_object_search.specs.declared.order_recording.RecordingFault.TheVariants as Faults
 use Rattle.ob_object_calls.specs.Beginnings.{BeginsNamed}

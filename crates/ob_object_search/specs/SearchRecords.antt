@@ -11,7 +11,7 @@ use Rattle.ob_meaning.specs.ByPositionStore.{Activation}
 use Rattle.ob_text_record.specs.RecordText.{record_text}
 use Rattle.ob_typing.specs.ModuleText.{IsModule}
 use Rattle.ob_typing.specs.Program.{Program}
-use Rattle.wf_order.specs.Beginnings.{process_count}
+use Rattle.wf_lookup.specs.Beginnings.{process_count}
 use Rattle.wf_history.specs.Legal.{IsLegal}
 
 -- with which state the calls of a history begin, how calls with a budget lead from state to state, and which variables a state is

@@ -5,17 +5,19 @@ ghost use Rattle.ob_checked.specs.CheckedModule.{program_in};
 ghost use Rattle.ob_interface.specs.View as Objects;
 ghost use Rattle.ob_mean.specs.View.{reply_of};
 ghost use Rattle.ob_carry.specs.ReadOnly.{TellsReadOnly};
+ghost use Rattle.ob_state_replies.specs.StateReplies.{TellsStateReplies};
 ghost use Rattle.ob_object_search.specs.Code.{IsCodeOf};
 
 use crate::coding::module_code;
 use crate::kept_states::{KeptState, kept};
 use ob_carry::silent_exports::read_only_exports;
 use ob_checked::checked::Checked;
-use ob_code_calls::{KnownReply, Led, Request, ScalarCalls};
+use ob_code_calls::{Led, Request, ScalarCalls};
 use ob_interface::NoMemory;
 use ob_interface::call::Reply;
 use ob_mean::call as interpreter;
 use ob_mean::outside_call::step;
+use ob_state_replies::{is_told, state_replies};
 use ob_store::state::State;
 use ob_store::value::copy_all;
 use smallvec::SmallVec;
@@ -33,14 +35,17 @@ pub struct ModuleObject<'a> {
     pub budget: u64,
     /// Of each export, whether it is known to change no variable of the module.
     read_only: Vec<bool>,
+    /// Of each export, whether its reply is known to depend on no argument.
+    of_state: Vec<bool>,
     /// The code of its calls, where there is any.
     code: Option<ScalarCalls>,
     ghost coded: { ∥ IsCodeOf (program_in checked.now) budget code ∥₁ },
     ghost tells: { ∥ TellsReadOnly (program_in checked.now) read_only.items ∥₁ },
+    ghost tells_of_state: { ∥ TellsStateReplies (program_in checked.now) of_state.items ∥₁ },
 }
 
 impl<'a> ModuleObject<'a> {
-    ghost use Rattle.std.specs.Prelude.{◌≡◌, IfOk, false, get_or};
+    ghost use Rattle.std.specs.Prelude.{◌≡◌, IfOk};
 
     /// The object of a module that begins with a state, each call with so many turns.
     pub fn new(
@@ -54,24 +59,16 @@ impl<'a> ModuleObject<'a> {
         ensures budget { IfOk result (λ o. o.budget ≡ budget) }
     {
         let read_only = read_only_exports(alloc, checked)?;
+        let of_state = state_replies(alloc, checked)?;
         let code = module_code(alloc, checked, budget)?;
         Ok(ModuleObject {
             checked,
             opening,
             budget,
             read_only,
+            of_state,
             code,
         })
-    }
-
-    /// Whether an export is known to change no variable of the module.
-    fn is_read_only(&self, export: usize) -> bool
-        ensures { result ≡ get_or self.now.read_only.items export false }
-    {
-        match self.read_only.get(export) {
-            Some(known) => *known,
-            None => false,
-        }
     }
 }
 
@@ -200,12 +197,10 @@ impl<'a> Object for ModuleObject<'a> {
             // What is lent is looked at at once: where it lies is then not asked twice.
             let lent = call.args.lent();
             let arguments = lent.as_slice();
-            let reply = KnownReply::new(known);
-            let wanted = reply.wanted();
             let request = Request {
                 proc: call.proc,
                 arguments,
-                wanted,
+                known,
             };
             let led = code.led(variables, scalars, request)?;
             match led {
@@ -245,11 +240,15 @@ impl<'a> Object for ModuleObject<'a> {
     }
 
     fn is_silent(&self, call: SeenCall, reply: SeenReply) -> bool {
-        matches!(reply, SeenReply::Trap(_)) || self.is_read_only(call.proc)
+        matches!(reply, SeenReply::Trap(_)) || is_told(&self.read_only, call.proc)
     }
 
     fn is_reader(&self, call: SeenCall) -> bool {
-        self.is_read_only(call.proc)
+        is_told(&self.read_only, call.proc)
+    }
+
+    fn replies_by_state(&self, call: SeenCall) -> bool {
+        is_told(&self.of_state, call.proc)
     }
 
     ghost determined = { λ o. one_outcome (program_in o.checked.now) o.budget };

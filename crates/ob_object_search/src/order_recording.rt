@@ -31,7 +31,7 @@ use ob_text_reading::{ReadHistory, read_history};
 use ob_text_record::{Record, write_record};
 use std::alloc::{AllocError, Global};
 use wf_history::{CallId, History};
-use wf_order::process_count;
+use wf_lookup::process_count;
 
 /// Why there is no record.
 #[derive(Clone, Copy)]

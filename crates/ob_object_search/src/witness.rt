@@ -20,7 +20,7 @@ use ob_checked::checked::Checked;
 use ob_interface::call::Reply;
 use std::alloc::Global;
 use wf_history::CallId;
-use wf_order::open_calls;
+use wf_lookup::open_calls;
 use wf_parts::copied;
 
 /// What there is of the events before a call's end.

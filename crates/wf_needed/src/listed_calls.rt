@@ -12,7 +12,9 @@ ghost use Rattle.wf_order.specs.Rows.{AreRows};
 use ob_interface::NoMemory;
 use std::alloc::Global;
 use wf_history::{CallId, Event, SeenCall, SeenReply};
-use wf_order::rows::{Rows, processes_of, rows_of};
+use wf_lookup::counted_processes::processes_of;
+use wf_order::kept_rows::Rows;
+use wf_order::rows::rows_of;
 
 /// A call, with the reply that the history has of it, if it has one.
 #[derive(Clone, Copy)]
@@ -23,7 +25,7 @@ pub(crate) struct Listed<'a> {
 }
 
 /// A call that has begun, with its reply.
-fn known_call<'a>(rows: &Rows<'a>, id: CallId) -> Option<Listed<'a>>
+fn known_call<'a>(rows: &Rows<'_, 'a>, id: CallId) -> Option<Listed<'a>>
     ensures id { IfSome result (λ c. c.id ≡ id) }
     ensures listed { (history : List (AnyEvent ObjectCall Reply)) (processes : ℕ) → AreRows history processes rows.now
         → MatchOption result ((call : ObjectCall) → ¬ HasBegun history id call) (IsListed history) }
@@ -65,7 +67,8 @@ pub(crate) fn listed_all<'a>(
     let Some(processes) = processes_of(events) else {
         return Err(NoMemory);
     };
-    let rows = rows_of(alloc, events, processes)?;
+    let kept = rows_of(alloc, events, processes)?;
+    let rows = kept.rows();
     if have_ended(&rows, order) {
         return Ok(None);
     }

@@ -9,7 +9,7 @@ use Rattle.ob_interface.specs.Call.{ObjectCall, Reply}
 use Rattle.wf_history.specs.declared.event.CallId.{CallId}
 use Rattle.wf_history.specs.History.{Event, Begin}
 use Rattle.wf_history.proofs.Positions.{contains_at, one_item}
-use Rattle.wf_order.specs.declared.rows.Rows.{Rows}
+use Rattle.wf_order.specs.declared.kept_rows.Rows.{Rows}
 use Rattle.wf_order.specs.declared.search.Frame.{Frame}
 use Rattle.wf_order.specs.Rows.{AreRows, begun_rows, call_at, row_of}
 use Rattle.wf_order.specs.Rules.{IsAnswered, IsMet, IsStoodFor, Passes, none_passed, one_passed}

@@ -10,13 +10,13 @@ use Rattle.wf_history.specs.History.{Event, Begin, Applied, End, IsHistory, Befo
 use Rattle.wf_history.specs.Legal.{HasBegun}
 use Rattle.wf_history.proofs.Positions.{place_of, place_left, place_push, place_behind, place_take, contains_at, take_next}
 use Rattle.wf_history.proofs.Once.{one_begin}
-use Rattle.wf_order.specs.Rows.{AreOfProcesses}
+use Rattle.wf_lookup.specs.Beginnings.{AreOfProcesses}
 use Rattle.wf_order.specs.Steps.{Configuration, IsLimit, IsStep, Leads, none, more, IsDone, start_at}
 use Rattle.wf_order.specs.Verdict.{HasLegal, IsLastLegal}
 use Rattle.wf_order.proofs.Completeness.{complete, none_taken}
 use Rattle.wf_order.proofs.Places.{before_at, places_before}
 use Rattle.wf_order.proofs.Soundness.{sound}
-use Rattle.wf_order.proofs.Turns.{front_whole, take_whole, slice_get_some}
+use Rattle.wf_lookup.proofs.Turns.{front_whole, take_whole, slice_get_some}
 
 module _ {State Call Reply : Type 0} (Effect : Call → State → State → Reply → Type 0) where
   module _ (xs ys : List (Event Call Reply)) where

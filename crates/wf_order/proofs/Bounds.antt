@@ -6,7 +6,7 @@ use Rattle.std.proofs.lemmas.Nat.{mul-le}
 use Rattle.ob_interface.specs.Call.{ObjectCall, Reply}
 use Rattle.wf_history.specs.declared.event.CallId.{CallId}
 use Rattle.wf_history.specs.History.{Event}
-use Rattle.wf_order.specs.declared.rows.Rows.{Rows}
+use Rattle.wf_order.specs.declared.kept_rows.Rows.{Rows}
 use Rattle.wf_order.specs.declared.search.Frame.{Frame}
 use Rattle.wf_order.specs.Rows.{AreRows, begun_rows, total}
 use Rattle.wf_order.specs.Search.{left, try_cost, work}
@@ -60,10 +60,9 @@ left_start (row ∷ rows) (suc n) = let r = left_start rows n in omega (arith, r
 weighed : (processes x c : ℕ) → x ≤ processes → 1 + (1 + x * c + 0) ≤ 2 + processes * c
 weighed processes x c le = let more = mul-le x c processes c le (omega arith) in omega (arith, more)
 
-module _ {M : Type 0} (history : List (Event ObjectCall Reply)) (processes : ℕ) (rows : Rows) (are : AreRows history processes rows) (opening : M) where
+module _ {M : Type 0} (history : List (Event ObjectCall Reply)) (processes : ℕ) (rows : Rows) (are : AreRows history processes rows) (few : total (begun_rows rows) ≤ length history) (opening : M) where
   all_cost : processes * try_cost processes (left (map length (begun_rows rows)) (replicate processes 0)) ≤ processes * try_cost processes (length history)
   all_cost =
-      let few = are.few in
       let start = left_start (begun_rows rows) processes in
       let more = try_more processes (left (map length (begun_rows rows)) (replicate processes 0)) (length history - left (map length (begun_rows rows)) (replicate processes 0)) in
       let size : (length history - left (map length (begun_rows rows)) (replicate processes 0)) + left (map length (begun_rows rows)) (replicate processes 0) ≡ length history = omega (arith, few, start) in

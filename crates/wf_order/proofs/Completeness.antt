@@ -11,7 +11,7 @@ use Rattle.wf_history.specs.Legal.{NoRepeats, HasBegun, OneAtATime, RepliesAgree
 use Rattle.wf_history.specs.Legal as legal
 use Rattle.wf_history.proofs.Positions.{place_of, contains_at, place_here, place_left, split_at, one_place}
 use Rattle.wf_order.specs.Steps.{Configuration, IsTaken, IsStep, Leads, none, more, IsDone}
-use Rattle.wf_order.proofs.Turns.{begin_number, before_numbers, numbers_before, has_begun}
+use Rattle.wf_lookup.proofs.Turns.{begin_number, before_numbers, numbers_before, has_begun}
 use Rattle.wf_order.proofs.Soundness.{taken_more, taken_now, taken_back}
 
 module _ {Call Reply : Type 0} (history : List (Event Call Reply)) where

@@ -10,7 +10,7 @@ use Rattle.wf_order.specs.declared.front.Front.TheVariants as Fronts
 use Rattle.wf_order.specs.Fronts.{IsFound}
 use Rattle.wf_order.specs.declared.search.Answer.{Answer}
 use Rattle.wf_order.specs.declared.search.Answer.TheVariants as Answers
-use Rattle.wf_order.specs.Rows.{AreOfProcesses}
+use Rattle.wf_lookup.specs.Beginnings.{AreOfProcesses}
 use Rattle.wf_order.specs.Search.{IsAnswer, try_cost}
 use Rattle.wf_order.specs.Verdict.{HasLegal, HasMore, IsBetween, IsLastLegal, IsTooMuch}
 use Rattle.wf_order.proofs.Beginnings.{last_legal_is}

@@ -7,9 +7,9 @@ use Rattle.wf_history.specs.declared.event.CallId.{CallId}
 use Rattle.wf_history.specs.History.{Event}
 use Rattle.wf_history.specs.Legal.{IsLegal}
 use Rattle.wf_history.proofs.Positions.{place_of}
-use Rattle.wf_order.specs.declared.rows.Rows.{Rows}
+use Rattle.wf_order.specs.declared.kept_rows.Rows.{Rows}
 use Rattle.wf_order.specs.declared.search.Frame.{Frame}
-use Rattle.wf_order.specs.Rows.{AreRows}
+use Rattle.wf_order.specs.Rows.{AreRows, begun_rows, total}
 use Rattle.wf_order.specs.Search.{ids_of, IsArrival, IsLed, IsSearch, try_cost, work}
 use Rattle.wf_order.specs.Steps.{Configuration, start_at}
 use Rattle.wf_order.specs.Verdict.{AreApart, HasMore}
@@ -26,9 +26,9 @@ module _ {M : Type 0} (Effect : ObjectCall → M → M → Reply → Type 0) (hi
       let is : path ≡ [] = a.0 ∙ ap (λ (l : List Frame). ids_of l) empty in
       subst (λ (l : List CallId). IsLegal Effect opening history l opening) (sym is) (empty_legal Effect history processes rows are opening a.1)
 
-  pub start_search : IsArrival Effect history start found more stack new None →
+  pub start_search : total (begun_rows rows) ≤ length history → IsArrival Effect history start found more stack new None →
       IsSearch Effect history processes (IsLed Effect history true start) start more new × (length more + work processes rows more new ≤ try_cost processes (length history + 1))
-  start_search a =
+  start_search few a =
       elim a.1 [
         | inl old ↦
             let p = place_of [] start (subst (λ (l : List (Configuration M)). Contains l start) none old.0) in
@@ -37,7 +37,7 @@ module _ {M : Type 0} (Effect : ObjectCall → M → M → Reply → Type 0) (hi
             let more_is : more ≡ start ∷ [] = first.0 ∙ ap (λ (l : List (Configuration M)). l ++ start ∷ []) none in
             let new_is : new ≡ first.1 ∷ [] = first.2 ∙ ap (λ (l : List Frame). l ++ first.1 ∷ []) empty in
             let place : first.1.place ≡ 0 = first.3 ∙ ap length none in
-            let work_is = start_work history processes rows are opening first.1 place first.4 in
+            let work_is = start_work history processes rows are few opening first.1 place first.4 in
             subst (λ (l : List (Configuration M)). IsSearch Effect history processes (IsLed Effect history true start) start l new × (length l + work processes rows l new ≤ try_cost processes (length history + 1))) (sym more_is)
             (subst (λ (l : List Frame). IsSearch Effect history processes (IsLed Effect history true start) start (start ∷ []) l × (length (start ∷ []) + work processes rows (start ∷ []) l ≤ try_cost processes (length history + 1))) (sym new_is)
             (begun_search Effect history processes (IsLed Effect history true start) (led_on Effect history true start) start (leads_none Effect history start) (length-replicate processes 0) a.0 first.1 place first.4 first.5, work_is))

@@ -12,7 +12,7 @@ use Rattle.wf_history.specs.Legal.{HasBegun}
 use Rattle.wf_history.specs.View.{seen_reply}
 use Rattle.wf_history.proofs.Positions.{place_of, place_here, place_left, place_push, place_take, place_in_take, contains_at, same_call}
 use Rattle.wf_history.proofs.Once.{one_begin, one_call, one_end}
-use Rattle.wf_order.specs.declared.rows.Rows.{Rows}
+use Rattle.wf_order.specs.declared.kept_rows.Rows.{Rows}
 use Rattle.wf_order.specs.declared.search.Frame.{Frame}
 use Rattle.wf_order.specs.declared.seen.Found.{Found}
 use Rattle.wf_order.specs.Fronts.{AreFramed, AreSized, EndsBefore, IsFarthest, IsFresh}
@@ -29,7 +29,7 @@ use Rattle.wf_order.proofs.Keeping.{mapped_some}
 use Rattle.wf_order.proofs.Places.{before_at, places_before}
 use Rattle.wf_order.proofs.Searching.{leads_push}
 use Rattle.wf_order.proofs.Soundness.{step_grows, taken_back, taken_now}
-use Rattle.wf_order.proofs.Turns.{take_whole}
+use Rattle.wf_lookup.proofs.Turns.{take_whole}
 
 module _ {State Call Reply : Type 0} (Effect : Call → State → State → Reply → Type 0) (history : List (Event Call Reply)) (whole : IsHistory history) (count : ℕ) where
   in_front : (event : Event Call Reply) (k : ℕ) → slice_get history k ≡ Some event → k < count → Contains (take count history) event

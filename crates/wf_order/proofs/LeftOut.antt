@@ -11,7 +11,7 @@ use Rattle.wf_history.specs.View.{seen_call}
 use Rattle.wf_history.proofs.Once.{one_call}
 use Rattle.wf_history.proofs.Positions.{same_call, contains_at}
 use Rattle.wf_order.specs.declared.rows.Begun.{Begun}
-use Rattle.wf_order.specs.declared.rows.Rows.{Rows}
+use Rattle.wf_order.specs.declared.kept_rows.Rows.{Rows}
 use Rattle.wf_order.specs.Rows.{AreRows, begun_rows, call_at, ended_rows, row_of}
 use Rattle.wf_order.specs.Rules.{AreIdle, IsAlike, IsOpen, IsOutcome, IsSameOutcome}
 use Rattle.wf_order.specs.Search.{IsNextStep}

@@ -3,7 +3,6 @@ pub mod Attempts
 pub mod Beginnings
 pub mod Bounds
 pub mod Completeness
-pub mod Counted
 pub mod Deciding
 pub mod Ending
 pub mod Exchange
@@ -12,9 +11,7 @@ pub mod Keeping
 pub mod LeftOut
 pub mod Limits
 pub mod Lists
-pub mod Nexts
 pub mod Noting
-pub mod OpenCalls
 pub mod Places
 pub mod Replacing
 pub mod Remembering
@@ -25,5 +22,4 @@ pub mod StandingFor
 pub mod Stepping
 pub mod Taken
 pub mod Turning
-pub mod Turns
 pub mod Weights

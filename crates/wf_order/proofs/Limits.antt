@@ -10,12 +10,12 @@ use Rattle.wf_history.specs.View.{seen_reply}
 use Rattle.wf_history.proofs.Once.{one_begin, one_end}
 use Rattle.wf_history.proofs.Positions.{place_of, contains_at, one_item, same_call}
 use Rattle.wf_order.specs.declared.rows.Ended.{Ended}
-use Rattle.wf_order.specs.declared.rows.Rows.{Rows}
+use Rattle.wf_order.specs.declared.kept_rows.Rows.{Rows}
 use Rattle.wf_order.specs.Fronts.{IsWithin}
 use Rattle.wf_order.specs.Rows.{AreRows, call_at, ended_rows, row_of}
 use Rattle.wf_order.specs.Steps.{IsTaken, IsLimit, IsDone}
 use Rattle.wf_order.proofs.Places.{before_at, places_before, ends_in_turn}
-use Rattle.wf_order.proofs.Turns.{slice_get_some}
+use Rattle.wf_lookup.proofs.Turns.{slice_get_some}
 
 module _ {Call Reply : Type 0} (history : List (Event Call Reply)) where
   begin_not_end : (a b : CallId) (call : Call) (reply : Reply) → ◌≡◌ {A = Event Call Reply} (Begin a call) (End b reply) → ⊥

@@ -1,9 +1,7 @@
 -- Lists, and rows of lists.
-use Rattle.std.proofs.Common.{◌≡◌, refl, sym, ap, ◌∙◌, ℕ, ◌+◌, ◌<◌, ◌≤◌, List, [], ◌∷◌, ◌++◌, length, get_or, set, map, replicate, Some, option_map, arith, inl, inr}
+use Rattle.std.proofs.Common.{◌≡◌, refl, sym, ap, ◌∙◌, ℕ, ◌+◌, ◌<◌, ◌≤◌, List, [], ◌∷◌, ◌++◌, length, get_or, set, map, replicate, arith, inl, inr}
 use Rattle.std.proofs.lemmas.Bool.{cases_lt}
 use Rattle.std.proofs.lemmas.List.{get_or_past, map-append, replicate_more, map-set, get_or-map}
-use Rattle.std.proofs.lemmas.Option.{same_Some, slice_get-map, slice_get-get_or}
-use Rattle.std.specs.List.{slice_get}
 use Rattle.wf_order.specs.Rows.{row_of}
 use Rattle.wf_order.specs.Steps.{Configuration}
 
@@ -26,14 +24,6 @@ module _ {A X : Type 0} (f : X → List A) where
 pub map-map : {A B C : Type 0} (f : B → C) (g : A → B) (xs : List A) → map f (map g xs) ≡ map (λ x. f (g x)) xs
 map-map f g [] = refl
 map-map {C} f g (x ∷ xs) = ap (λ (l : List C). f (g x) ∷ l) (map-map f g xs)
-
--- an item that was read
-module _ {X Y : Type 0} (f : X → Y) (xs : List X) (i : ℕ) (x : X) where
-  pub item_here : i < length xs → x ≡ get_or xs i x → slice_get (map f xs) i ≡ Some (f x)
-  item_here within is = slice_get-map f xs i ∙ ap (option_map f) (slice_get-get_or xs i x within ∙ ap Some (sym is))
-
-  pub item_at : (y : Y) → i < length xs → x ≡ get_or xs i x → slice_get (map f xs) i ≡ Some y → f x ≡ y
-  item_at y within is at = same_Some (f x) y (sym (item_here within is) ∙ at)
 
 pub same_configuration : {State : Type 0} {xs ys : List ℕ} {s t : State} → xs ≡ ys → s ≡ t → ◌≡◌ {A = Configuration State} (record { counts = xs; state = s }) (record { counts = ys; state = t })
 same_configuration {State} {xs} {ys} {s} {t} e f =

@@ -13,7 +13,7 @@ use Rattle.wf_history.proofs.Turns.{own_calls-push}
 use Rattle.wf_order.specs.declared.rows.Begun.{Begun}
 use Rattle.wf_order.specs.declared.rows.Ended.{Ended}
 use Rattle.wf_order.specs.Rows.{row_of, total, call_at, AreNoted}
-use Rattle.wf_order.proofs.Turns.{own_answers-append, one_own_answer, one_own_call, begin_number, end_number}
+use Rattle.wf_lookup.proofs.Turns.{own_answers-append, one_own_answer, one_own_call, begin_number, end_number}
 
 -- a test of a process with another
 other_test : {X : Type 0} (p q : ℕ) (x : X) → (p ≡ q → ⊥) → cond (nat_eq p q) (x ∷ []) [] ≡ []

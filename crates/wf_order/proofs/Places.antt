@@ -5,7 +5,7 @@ use Rattle.std.specs.List.{slice_get}
 use Rattle.wf_history.specs.declared.event.CallId.{CallId}
 use Rattle.wf_history.specs.History.{Event, Begin, End, IsHistory, Before, before, own_answers}
 use Rattle.wf_history.proofs.Positions.{split_twice, places_of_split, one_item}
-use Rattle.wf_order.proofs.Turns.{end_number, own_answers-append, one_own_answer}
+use Rattle.wf_lookup.proofs.Turns.{end_number, own_answers-append, one_own_answer}
 
 module _ {Call Reply : Type 0} (history : List (Event Call Reply)) where
   -- a call that ends at a place is before one that begins at a later place

@@ -10,7 +10,7 @@ use Rattle.wf_history.proofs.Once.{one_call, one_reply, one_end}
 use Rattle.wf_history.proofs.Positions.{contains_at, same_call}
 use Rattle.wf_order.specs.declared.rows.Begun.{Begun}
 use Rattle.wf_order.specs.declared.rows.Ended.{Ended}
-use Rattle.wf_order.specs.declared.rows.Rows.{Rows}
+use Rattle.wf_order.specs.declared.kept_rows.Rows.{Rows}
 use Rattle.wf_order.specs.Rows.{row_of, begun_rows, ended_rows, call_at, AreRows}
 use Rattle.wf_order.specs.Rules.{ComesFirst, ends, open_ones, IsOpen, AreAlike, AreSameReplies, HasSooner, IsBehind, AreBehind}
 use Rattle.wf_order.specs.Search.{IsOnlyStep}

@@ -10,7 +10,7 @@ use Rattle.wf_history.specs.declared.event.CallId.{CallId}
 use Rattle.wf_history.specs.History.{Event, Begin, End, IsHistory}
 use Rattle.wf_history.specs.Legal.{IsLegal}
 use Rattle.wf_history.proofs.Positions.{place_push, place_left, place_here, place_of, contains_at, one_item}
-use Rattle.wf_order.specs.declared.rows.Rows.{Rows}
+use Rattle.wf_order.specs.declared.kept_rows.Rows.{Rows}
 use Rattle.wf_order.specs.declared.search.Frame.{Frame}
 use Rattle.wf_order.specs.Rows.{AreRows}
 use Rattle.wf_order.specs.Steps.{Configuration, IsLimit, IsStep, Leads, none, more, IsDone, start_at}

@@ -13,11 +13,11 @@ use Rattle.wf_history.proofs.Once.{one_call}
 use Rattle.wf_history.proofs.Positions.{contains_at, place_left, same_call}
 use Rattle.wf_order.specs.declared.rows.Begun.{Begun}
 use Rattle.wf_order.specs.declared.rows.Ended.{Ended}
-use Rattle.wf_order.specs.declared.rows.Rows.{Rows}
+use Rattle.wf_order.specs.declared.kept_rows.Rows.{Rows}
 use Rattle.wf_order.specs.Rows.{AreRows, begun_rows, call_at, ended_rows, row_of}
-use Rattle.wf_order.specs.Rules.{AreSo, DoesSo, HasOther, IsStoodFor, MayCome, StandsBefore}
+use Rattle.wf_order.specs.Rules.{AreSo, DoesSo, IsStoodFor, MayCome, StandsBefore}
 use Rattle.wf_order.specs.Steps.{Configuration, IsDone, IsLimit, IsStep, IsTaken, Leads, none, more}
-use Rattle.wf_order.proofs.Exchange.{IsHopeful, IsNext, hope_more, without_moved}
+use Rattle.wf_order.proofs.Exchange.{IsHopeful, hope_more, without_moved}
 use Rattle.wf_order.proofs.Limits.{limit_later}
 use Rattle.wf_order.proofs.Replacing.{ended_in, open_in}
 

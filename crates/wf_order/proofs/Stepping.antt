@@ -12,7 +12,7 @@ use Rattle.wf_history.proofs.Positions.{same_call, contains_at}
 use Rattle.wf_history.proofs.Once.{one_call, one_reply}
 use Rattle.wf_order.specs.declared.rows.Begun.{Begun}
 use Rattle.wf_order.specs.declared.rows.Ended.{Ended}
-use Rattle.wf_order.specs.declared.rows.Rows.{Rows}
+use Rattle.wf_order.specs.declared.kept_rows.Rows.{Rows}
 use Rattle.wf_order.specs.Rows.{row_of, begun_rows, ended_rows, call_at, AreRows}
 use Rattle.wf_order.specs.Steps.{Configuration, IsLimit, IsStep, one_more}
 use Rattle.wf_order.specs.Rules.{IsOutcome, IsReading}

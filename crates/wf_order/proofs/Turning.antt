@@ -11,7 +11,7 @@ use Rattle.wf_history.specs.View.{seen_call}
 use Rattle.wf_history.proofs.Once.{one_begin}
 use Rattle.wf_history.proofs.Positions.{place_of, one_item, same_call}
 use Rattle.wf_order.specs.declared.rows.Begun.{Begun}
-use Rattle.wf_order.specs.declared.rows.Rows.{Rows}
+use Rattle.wf_order.specs.declared.kept_rows.Rows.{Rows}
 use Rattle.wf_order.specs.declared.next_call.Next.{Next}
 use Rattle.wf_order.specs.declared.next_call.Turn.{Turn}
 use Rattle.wf_order.specs.Rows.{AreRows, begun_rows, call_at, row_of}

@@ -5,7 +5,7 @@ use Rattle.wf_history.specs.History.{Event}
 use Rattle.wf_order.specs.declared.front.Front.{Front}
 use Rattle.wf_order.specs.declared.front.Front.TheVariants as Fronts
 use Rattle.wf_order.specs.declared.rows.Ended.{Ended}
-use Rattle.wf_order.specs.declared.rows.Rows.{Rows}
+use Rattle.wf_order.specs.declared.kept_rows.Rows.{Rows}
 use Rattle.wf_order.specs.declared.search.Frame.{Frame}
 use Rattle.wf_order.specs.Rows.{ended_rows, row_of}
 use Rattle.wf_order.specs.Steps.{IsLimit}

@@ -1,6 +1,6 @@
-pub mod Beginnings
 pub mod Fronts
 pub mod MadeCalls
+pub mod Rising
 pub mod Rows
 pub mod Rules
 pub mod Search

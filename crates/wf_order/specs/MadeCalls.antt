@@ -12,12 +12,19 @@ pub record StandsAt {S : Type 0} (calls : MadeCalls S) (row : ℕ) (words : List
   pub words_are : made.words.items ≡ words
   pub call_is : seen_call made.call ≡ call
 
--- the call was made on the state with these words, and had another reply
-pub record IsOtherwise {S : Type 0} (calls : MadeCalls S) (words : List ℕ) (call : ObjectCall) (reply : Reply) : Type 0 where
+-- what stands at this row is a call of the procedure, made on the state with these words
+pub record IsToldAt {S : Type 0} (calls : MadeCalls S) (words : List ℕ) (call : ObjectCall) (made : MadeCall S) : Type 0 where
   pub row : ℕ
-  pub made : MadeCall S
-  pub is : StandsAt calls row words call made
-  pub other : ¬ (reply_of made.reply ≡ reply)
+  pub at : get_or calls.rows.items row None ≡ Some made
+  pub words_are : made.words.items ≡ words
+  pub same : (seen_call made.call).export ≡ call.export
+
+-- made on the state, the call has another reply
+pub record IsOtherwise {M : Type 0} (Effect : M → M → Reply → Type 0) (before : M) (reply : Reply) : Type 0 where
+  pub after : M
+  pub answer : Reply
+  pub effect : Effect before after answer
+  pub other : ¬ (answer ≡ reply)
 
 -- the call, made on the state, has this reply where it is so, and else another one
 pub record IsAsked {M : Type 0} (Effect : ObjectCall → M → M → Reply → Type 0) (call : ObjectCall) (before : M) (reply : Reply) (so : Bool) : Type 0 where

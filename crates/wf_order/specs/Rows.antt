@@ -2,19 +2,22 @@
 use Rattle.std.specs.Prelude.{◌≡◌, ℕ, ◌+◌, ◌-◌, ◌<◌, ◌≤◌, List, [], ◌∷◌, map, length, get_or, slice_get, Some, Contains}
 use Rattle.ob_interface.specs.Call.{ObjectCall, Reply}
 use Rattle.wf_history.specs.declared.event.CallId.{CallId}
-use Rattle.wf_history.specs.History.{Event, Begin, Applied, End, IsHistory, own_calls, own_answers}
+use Rattle.wf_history.specs.History.{Event, Begin, End, IsHistory, own_calls, own_answers}
 use Rattle.wf_history.specs.Legal.{HasBegun}
 use Rattle.wf_history.specs.View.{seen_call, seen_reply}
 use Rattle.wf_order.specs.declared.rows.Begun.{Begun}
+use Rattle.wf_lookup.specs.Beginnings.{AreOfProcesses}
+use Rattle.wf_order.specs.Rising.{up_to}
+use Rattle.wf_order.specs.declared.kept_rows.KeptRows.{KeptRows}
 use Rattle.wf_order.specs.declared.rows.Ended.{Ended}
-use Rattle.wf_order.specs.declared.rows.Rows.{Rows}
+use Rattle.wf_order.specs.declared.kept_rows.Rows.{Rows}
 
--- the rows as lists
+-- the rows as lists, as far as the events go
 abbrev pub begun_rows : Rows → List (List Begun)
-begun_rows rows = map (λ row. row.items) rows.begun.items
+begun_rows rows = map (λ row. up_to (λ b. b.place) rows.events row.items) rows.begun.now
 
 abbrev pub ended_rows : Rows → List (List Ended)
-ended_rows rows = map (λ row. row.items) rows.ended.items
+ended_rows rows = map (λ row. up_to (λ e. e.place) rows.events row.items) rows.ended.now
 
 -- what stands at a place in the row of a process
 module _ {A : Type 0} where
@@ -48,18 +51,6 @@ pub record AreRows (history : List (Event ObjectCall Reply)) (processes : ℕ) (
   pub ended : (process k : ℕ) (e : Ended) → slice_get (row_of (ended_rows rows) process) k ≡ Some e → slice_get history e.place ≡ Some (End (call_at process k) (seen_reply e.reply))
   pub every_ended : (id : CallId) (reply : Reply) → Contains history (End id reply) →
       (id.process < processes) × (0 < id.number) × (e : Ended) × (slice_get (row_of (ended_rows rows) id.process) (id.number - 1) ≡ Some e)
-  -- there are no more calls than events
-  pub few : total (begun_rows rows) ≤ length history
-
--- the event is of one of so many processes
-abbrev pub IsOfProcesses : ℕ → Event ObjectCall Reply → Type 0
-IsOfProcesses processes (Begin id call) = id.process < processes
-IsOfProcesses processes (Applied ids) = Unit {0}
-IsOfProcesses processes (End id reply) = id.process < processes
-
--- each event is
-abbrev pub AreOfProcesses : ℕ → List (Event ObjectCall Reply) → Type 0
-AreOfProcesses processes history = (event : Event ObjectCall Reply) → Contains history event → IsOfProcesses processes event
 
 -- the rows as far as a history goes
 pub record AreNoted (history : List (Event ObjectCall Reply)) (processes : ℕ) (begun : List (List Begun)) (ended : List (List Ended)) : Type 0 where
@@ -70,3 +61,10 @@ pub record AreNoted (history : List (Event ObjectCall Reply)) (processes : ℕ) 
   pub begun_at : (p k : ℕ) (b : Begun) → slice_get (row_of begun p) k ≡ Some b → slice_get history b.place ≡ Some (Begin (call_at p k) (seen_call b.call))
   pub ended_at : (p k : ℕ) (e : Ended) → slice_get (row_of ended p) k ≡ Some e → slice_get history e.place ≡ Some (End (call_at p k) (seen_reply e.reply))
   pub few : total begun ≤ length history
+
+-- rows of a whole history, as they are kept
+pub record AreKept (history : List (Event ObjectCall Reply)) (processes : ℕ) (rows : KeptRows) : Type 0 where
+  pub whole : IsHistory history
+  pub few : AreOfProcesses processes history
+  pub events : rows.events ≡ length history
+  pub noted : AreNoted history processes (map (λ row. row.items) rows.begun.items) (map (λ row. row.items) rows.ended.items)

@@ -161,3 +161,7 @@ IsSameOutcome {State} {Reply} Effect before behind known =
 abbrev pub IsOutcome : {State Reply : Type 0} → (State → State → Reply → Type 0) → State → Option Reply → Option State → Type 0
 IsOutcome {State} {Reply} Effect before known (Some after) = (reply : Reply) × Effect before after reply × IfSome known (λ r. r ≡ reply)
 IsOutcome {State} {Reply} Effect before known None = (after : State) × (reply : Reply) × Effect before after reply × (r : Reply) × (known ≡ Some r) × (r ≡ reply → ⊥)
+
+-- where the first call has a reply, the second one has it in the same state
+abbrev pub RepliesAlike : {State Reply : Type 0} → (Effect Own : State → State → Reply → Type 0) → Type 0
+RepliesAlike {State} {Reply} Effect Own = (before after : State) (reply : Reply) → Effect before after reply → (own : State) × Own before own reply

@@ -17,7 +17,7 @@ use Rattle.wf_order.specs.declared.step.Silent.{Silent}
 use Rattle.wf_order.specs.declared.step.Silent.TheVariants as Silents
 use Rattle.wf_order.specs.declared.rows.Begun.{Begun}
 use Rattle.wf_order.specs.declared.rows.Ended.{Ended}
-use Rattle.wf_order.specs.declared.rows.Rows.{Rows}
+use Rattle.wf_order.specs.declared.kept_rows.Rows.{Rows}
 use Rattle.wf_order.specs.declared.seen.Found as Rust
 use Rattle.wf_order.specs.Rows.{AreAt, AreRows, begun_rows, call_at, row_of}
 use Rattle.wf_order.specs.Rules.{IsAnswered, IsReading, IsSilent, Passes}

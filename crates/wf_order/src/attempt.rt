@@ -149,7 +149,7 @@ fn is_dropped<O: Object>(
     if !ends_with_values(next) {
         return false;
     }
-    replies_otherwise(here.found, next.begun.call, end.reply, calls)
+    replies_otherwise(task, here.found, next.begun.call, end.reply, calls)
 }
 
 /// Where another call is tried: of the turns behind it, the place of the first one that is still to be tried then. Where there is none, the number of

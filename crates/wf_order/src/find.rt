@@ -6,13 +6,15 @@ ghost use Rattle.wf_history.specs.History.{Event as AnyEvent, End, IsHistory};
 ghost use Rattle.wf_history.specs.View.{event_of};
 ghost use Rattle.wf_order.specs.declared.find.Verdict.TheVariants as Verdicts;
 ghost use Rattle.wf_order.specs.Fronts.{IsFarthest, IsFound};
-ghost use Rattle.wf_order.specs.Rows.{AreOfProcesses, AreRows};
+ghost use Rattle.wf_order.specs.Rows.{AreRows, begun_rows, total};
+ghost use Rattle.wf_lookup.specs.Beginnings.{AreOfProcesses};
 ghost use Rattle.wf_order.specs.Search.{all_counts, all_found, AreWorded, IsAnswer, IsWholeSearch};
 ghost use Rattle.wf_order.specs.Verdict.{HasLegal, IsBetween, IsHalved, IsLastFound, IsVerdict, enough};
 
 use crate::front::{Front, farthest_of, frames_behind, go_on};
 use crate::hints::Hints;
-use crate::rows::{Rows, processes_of, rows_of};
+use crate::kept_rows::Rows;
+use crate::rows::rows_of;
 use crate::search::{Answer, search};
 use crate::searched_object::Object;
 use crate::seen::Seen;
@@ -21,6 +23,7 @@ use ob_interface::NoMemory;
 use std::alloc::Global;
 use std::hash::RandomState;
 use wf_history::{CallId, Event, History, SeenEvent};
+use wf_lookup::counted_processes::processes_of;
 use wf_lookup::keys::Keys;
 
 /// What is found of a history.
@@ -40,7 +43,7 @@ pub enum Verdict {
 struct Question<'r, 'a, O> {
     alloc: Global,
     events: &'a [Event],
-    rows: &'r Rows<'a>,
+    rows: &'r Rows<'r, 'a>,
     hints: &'r Hints,
     object: &'a O,
     processes: usize,
@@ -59,7 +62,8 @@ fn front_answer<O: Object>(question: &Question<O>, count: usize) -> Result<Answe
     let alloc = question.alloc;
     let processes = question.processes;
     let events = &question.events[..count];
-    let rows = rows_of(alloc, events, processes)?;
+    let kept = rows_of(alloc, events, processes)?;
+    let rows = kept.rows();
     let task = Task {
         alloc,
         events,
@@ -91,11 +95,10 @@ fn front_by_found<O: Object>(
 {
     let alloc = question.alloc;
     let processes = question.processes;
-    let events = &question.events[..count];
-    let rows = rows_of(alloc, events, processes)?;
+    let rows = question.rows.first(count);
     let task = Task {
         alloc,
-        events,
+        events: &question.events[..count],
         object: question.object,
         rows: &rows,
         hints: question.hints,
@@ -214,6 +217,7 @@ fn verdict_of<O: Object>(question: &Question<O>) -> Result<Verdict, NoMemory>
     requires history { IsHistory (map event_of question.now.events.now) }
     requires few { AreOfProcesses question.now.processes (map event_of question.now.events.now) }
     requires rows { AreRows (map event_of question.now.events.now) question.now.processes question.now.rows.now }
+    requires calls { total (begun_rows question.now.rows.now) ≤ length question.now.events.now }
     ensures verdict { IfOk result (IsVerdict (O.effect question.now.object.now) (O.opening question.now.object.now) (map event_of question.now.events.now) question.now.most) }
     ensures decided { enough question.now.processes (length question.now.events.now) ≤ question.now.most → IfOk result (λ verdict. ¬ (verdict ≡ Verdicts.TooMany)) }
 {
@@ -254,7 +258,8 @@ pub fn find_order<O: Object>(
     let Some(processes) = processes_of(events) else {
         return Err(NoMemory);
     };
-    let rows = rows_of(alloc, events, processes)?;
+    let kept = rows_of(alloc, events, processes)?;
+    let rows = kept.rows();
     let hints = Hints::of(alloc, object, &rows)?;
     let question = Question {
         alloc,

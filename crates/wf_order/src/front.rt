@@ -9,8 +9,9 @@ ghost use Rattle.wf_order.specs.Search.{all_counts, all_found, AreWorded, IsGrow
 ghost use Rattle.wf_order.specs.Fronts.{AreFramed, AreSized, EndsBefore, IsFarthest, IsFound, IsWithin};
 ghost use Rattle.wf_order.specs.Steps.{start_at};
 
+use crate::kept_rows::Rows;
 use crate::made_calls::no_calls;
-use crate::rows::{Rows, limit_of};
+use crate::rows::limit_of;
 use crate::search::{Frame, advance};
 use crate::searched_object::Object;
 use crate::seen::Seen;

@@ -1,11 +1,12 @@
 //! What is known of each call before the search, so that less is asked. It says where to ask, and the answers alone count.
 
-use crate::made_calls::{SPREAD, number_of};
-use crate::rows::{Begun, Ended, Rows};
+use crate::kept_rows::Rows;
+use crate::rows::{Begun, Ended};
 use crate::searched_object::Object;
 use ob_interface::NoMemory;
 use std::alloc::{AllocError, Global};
 use wf_history::{SeenCall, SeenReply};
+use wf_lookup::numbers::{SPREAD, number_of};
 
 /// Of a call.
 #[derive(Clone, Copy)]

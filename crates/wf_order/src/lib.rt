@@ -3,19 +3,17 @@
 //! equal calls only one is tried, and an open call not where all that may come behind it comes without it too. And from a configuration that another one
 //! stands for, which was found before, the search doesn't go on.
 //!
-//! One may rely on the clauses of `find_order` (`specs/Verdict.antt`), `open_calls` and `process_count`. In which order steps are tried may change
-//! without asking. An order that is found is cut down to the open calls that it needs by wf_needed.
+//! One may rely on the clauses of `find_order` (`specs/Verdict.antt`). In which order steps are tried may change without asking. An order that is found is cut down to the open calls that it needs by wf_needed.
 #![tactic(auto)]
 
 mod attempt;
 mod behind;
-pub mod counted_processes;
 pub mod find;
 mod front;
 mod hints;
+pub mod kept_rows;
 mod made_calls;
 mod next_call;
-pub mod opened;
 mod passing;
 pub mod rows;
 mod search;
@@ -26,7 +24,5 @@ mod standing;
 mod step;
 mod without;
 
-pub use counted_processes::process_count;
 pub use find::{Verdict, find_order};
-pub use opened::open_calls;
 pub use searched_object::Object;

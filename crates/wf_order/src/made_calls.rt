@@ -1,10 +1,11 @@
 //! Calls that were made, so that few are made twice.
 
 ghost use Rattle.std.specs.Prelude.{◌≡◌, ◌↔◌, ◌<◌, ℕ, Some, None, get_or, replicate, IfOk, IfSome, OnOk, IsTrue, option_copied, option_map};
+ghost use Rattle.ob_interface.specs.Call.{ObjectCall};
 ghost use Rattle.ob_interface.specs.View.{reply_of};
 ghost use Rattle.wf_history.specs.View.{seen_call, seen_reply};
-ghost use Rattle.wf_order.specs.MadeCalls.{AreMade, HasMade, IsAsked, StandsAt, IsOtherwise};
-ghost use Rattle.wf_order.specs.Rules.{DoesSo, IsOutcome, IsSameOutcome};
+ghost use Rattle.wf_order.specs.MadeCalls.{AreMade, HasMade, IsAsked, IsOtherwise, IsToldAt, StandsAt};
+ghost use Rattle.wf_order.specs.Rules.{DoesSo, IsOutcome, IsSameOutcome, RepliesAlike};
 ghost use Rattle.wf_order.specs.Search.{IsWorded};
 
 use crate::searched_object::{Object, Words};
@@ -12,17 +13,14 @@ use crate::seen::Found;
 use crate::step::Task;
 use ob_interface::NoMemory;
 use ob_interface::call::Reply;
-use ob_interface::scalar::Scalar;
 use smallvec::SmallVec;
 use std::alloc::{AllocError, Global};
 use wf_history::{SeenCall, SeenReply};
 use wf_lookup::compared_replies::{are_equal_replies, is_same_call, is_same_reply};
+use wf_lookup::numbers::{SPREAD, number_of, number_of_words};
 
 /// How many calls are remembered at most.
 const ROWS: usize = 256;
-
-/// An odd number that spreads a number over its upper bits.
-pub(crate) const SPREAD: u64 = 0x9E37_79B9_7F4A_7C15;
 
 /// So many calls that write are looked up in vain, beyond those that are found, before none is looked up any more.
 const VAIN_CALLS: usize = 256;
@@ -42,27 +40,6 @@ pub(crate) struct MadeCalls<'a, S> {
     pub rows: Vec<Option<MadeCall<'a, S>>>,
     /// How many calls that write may still be looked up in vain.
     left: usize,
-}
-
-/// A scalar as a number.
-pub(crate) fn number_of(scalar: Scalar) -> u64 {
-    match scalar {
-        Scalar::Int(number) => number.cast_unsigned() as u64,
-        Scalar::Bool(false) => 0,
-        Scalar::Bool(true) => 1,
-    }
-}
-
-/// The words of a state as a number.
-fn number_of_words(words: &[u64]) -> u64 {
-    let mut number = 0_u64;
-    if let [word] = words {
-        return *word;
-    }
-    for word in words {
-        number = number.wrapping_mul(31).wrapping_add(*word);
-    }
-    number
 }
 
 /// The row of a call on the state with these words.
@@ -218,15 +195,58 @@ pub(crate) fn replies_so<'a, O: Object>(
     Ok(is_same_reply(&made.reply, reply))
 }
 
-/// Whether a call is known to have another reply in a configuration's state.
-pub(crate) fn replies_otherwise<S>(
+/// The row of the calls of a procedure on the state with these words, where their reply depends on the state alone.
+#[inline(always)]
+fn told_row(words: &[u64], proc: usize) -> usize
+    ensures { result < 256 }
+{
+    let number = number_of_words(words)
+        .wrapping_mul(31)
+        .wrapping_add(proc as u64);
+    (number.wrapping_mul(SPREAD) >> 56) as usize % ROWS
+}
+
+/// What stands there, if it is a call of the same procedure on a configuration's state.
+#[inline(always)]
+fn told_at<'c, 'a, S>(
     found: &Found<S>,
     call: SeenCall,
-    reply: SeenReply,
-    calls: &MadeCalls<S>,
-) -> bool
-    ensures { IsTrue result → IsOtherwise calls.now found.now.words.items (seen_call call.entry) (seen_reply reply.entry) }
+    calls: &'c MadeCalls<'a, S>,
+) -> Option<&'c MadeCall<'a, S>>
+    ensures { IfSome result (λ made. IsToldAt calls.now found.now.words.items (seen_call call.entry) made.now) }
 {
+    let words = found.words.as_slice();
+    let made = made_at(calls, told_row(words, call.proc))?;
+    if !are_words(made.words.as_slice(), words) {
+        return None;
+    }
+    if made.call.proc != call.proc {
+        return None;
+    }
+    Some(made)
+}
+
+/// Whether a call is known to have another reply in a configuration's state.
+pub(crate) fn replies_otherwise<O: Object>(
+    task: &Task<O>,
+    found: &Found<O::State>,
+    call: SeenCall,
+    reply: SeenReply,
+    calls: &MadeCalls<O::State>,
+) -> bool
+    requires worded { IsWorded O.meaning O.words_of found.now }
+    requires made { AreMade O.meaning O.words_of (O.effect task.now.object.now) calls.now }
+    ensures { IsTrue result → IsOtherwise (O.effect task.now.object.now (seen_call call.entry)) (O.meaning found.now.state) (seen_reply reply.entry) }
+{
+    if task.object.replies_by_state(call) {
+        let Some(made) = told_at(found, call, calls) else {
+            return false;
+        };
+        if is_same_reply(&made.reply, reply) {
+            return false;
+        }
+        return true;
+    }
     let Some(made) = remembered(found, call, calls) else {
         return false;
     };
@@ -234,6 +254,42 @@ pub(crate) fn replies_otherwise<S>(
         return false;
     }
     true
+}
+
+/// What comes of a call whose reply depends on the state alone, where it is the one that is known: what another call of its procedure replied there tells
+/// whether it is, and where that is remembered the call is made only if it is.
+#[inline(never)]
+fn outcome_by_state<'a, O: Object>(
+    task: &Task<'_, 'a, O>,
+    found: &Found<O::State>,
+    call: SeenCall<'a>,
+    known: SeenReply,
+    calls: &mut MadeCalls<'a, O::State>,
+) -> Result<Option<O::State>, NoMemory>
+    requires alike { (other : ObjectCall) → other.export ≡ (seen_call call).export
+        → RepliesAlike (O.effect task.now.object.now other) (O.effect task.now.object.now (seen_call call)) }
+    requires worded { IsWorded O.meaning O.words_of found.now }
+    requires made { AreMade O.meaning O.words_of (O.effect task.now.object.now) calls.old }
+    ensures made { OnOk result (AreMade O.meaning O.words_of (O.effect task.now.object.now) calls.new) }
+    ensures outcome { IfOk result (λ to. IsOutcome (O.effect task.now.object.now (seen_call call.entry)) (O.meaning found.now.state) (Some (seen_reply known.entry)) (option_map O.meaning to)) }
+{
+    if let Some(made) = told_at(found, call, calls) {
+        if !is_same_reply(&made.reply, known) {
+            return Ok(None);
+        }
+        return task
+            .object
+            .outcome(task.alloc, &found.state, call, Some(known));
+    }
+    let row = told_row(found.words.as_slice(), call.proc);
+    make_at(task, found, call, row, calls)?;
+    let Some(made) = made_at(calls, row) else {
+        unreachable!()
+    };
+    if !is_same_reply(&made.reply, known) {
+        return Ok(None);
+    }
+    Ok(Some(task.object.copy(task.alloc, &made.state)?))
 }
 
 /// What a call makes of a configuration's state, where its reply is the one that is known, if one is. Where few such calls had been made, none is
@@ -251,6 +307,11 @@ pub(crate) fn outcome<'a, O: Object>(
     ensures outcome { IfOk result (λ to. IsOutcome (O.effect task.now.object.now (seen_call call.entry)) (O.meaning found.now.state) (option_map seen_reply known.entry) (option_map O.meaning to)) }
 {
     if calls.left == 0 {
+        if let Some(reply) = known
+            && task.object.replies_by_state(call)
+        {
+            return outcome_by_state(task, found, call, reply, calls);
+        }
         return task.object.outcome(task.alloc, &found.state, call, known);
     }
     let (row, was_there) = row_with(task, found, call, calls)?;

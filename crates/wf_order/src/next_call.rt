@@ -3,7 +3,8 @@
 ghost use Rattle.std.specs.Prelude.{◌≡◌, [], OnOk, MatchOption, length};
 ghost use Rattle.wf_order.specs.Turns.{AreTurns, HasNone, IsFirstIn, IsNextOf};
 
-use crate::rows::{Begun, Ended, Rows};
+use crate::kept_rows::Rows;
+use crate::rows::{Begun, Ended};
 use ob_interface::NoMemory;
 use smallvec::SmallVec;
 
@@ -16,7 +17,7 @@ pub(crate) struct Next<'a> {
 }
 
 /// The next call of a process, if it has one.
-pub(crate) fn next_of<'a>(rows: &Rows<'a>, counts: &[u32], process: usize) -> Option<Next<'a>>
+pub(crate) fn next_of<'a>(rows: &Rows<'_, 'a>, counts: &[u32], process: usize) -> Option<Next<'a>>
     ensures { MatchOption result (HasNone rows.now counts.now process) (λ next. (next.process ≡ process) × IsNextOf rows.now counts.now next) }
 {
     let place = *counts.get(process)? as usize;
@@ -67,10 +68,11 @@ pub(crate) fn first_turn(turns: &[Turn], from: usize, limit: usize) -> Turn
         process: 0,
         place: limit,
     };
+    // Chosen without a jump, since the turns come in any order.
     for turn in turns {
-        if turn.place >= from && turn.place < first.place {
-            first = *turn;
-        }
+        let turn = *turn;
+        let comes_first = turn.place >= from && turn.place < first.place;
+        first = if comes_first { turn } else { first };
     }
     first
 }

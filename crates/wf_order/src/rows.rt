@@ -5,10 +5,11 @@ ghost use Rattle.std.specs.Prelude.{◌↔◌, Contains, IfOk, IfSome, IsTrue, O
 ghost use Rattle.ob_interface.specs.Call.{ObjectCall, Reply};
 ghost use Rattle.wf_history.specs.History.{Event as AnyEvent, IsHistory};
 ghost use Rattle.wf_history.specs.View.{event_of};
-ghost use Rattle.wf_order.specs.Beginnings.{needed, process_count};
-ghost use Rattle.wf_order.specs.Rows.{AreRows, AreNoted, IsOfProcesses, row_of};
+ghost use Rattle.wf_lookup.specs.Beginnings.{IsOfProcesses};
+ghost use Rattle.wf_order.specs.Rows.{AreKept, AreNoted, AreRows, row_of};
 ghost use Rattle.wf_order.specs.Steps.{IsLimit, IsOneMore, IsTaken};
 
+use crate::kept_rows::{KeptRows, Rows};
 use ob_interface::NoMemory;
 use std::alloc::Global;
 use wf_history::{CallId, Event, SeenCall, SeenEvent, SeenReply};
@@ -27,31 +28,64 @@ pub struct Ended<'a> {
     pub place: usize,
 }
 
-/// Of each process the calls that it began and the replies that it got, in order; and the number of events.
-#[derive(Drop)]
-pub struct Rows<'a> {
-    pub begun: Vec<Vec<Begun<'a>>>,
-    pub ended: Vec<Vec<Ended<'a>>>,
-    pub events: usize,
+impl<'a> KeptRows<'a> {
+    ghost use Rattle.std.specs.Prelude.{◌≤◌, ℕ, List, length};
+    ghost use Rattle.ob_interface.specs.Call.{ObjectCall, Reply};
+    ghost use Rattle.wf_history.specs.History.{Event as AnyEvent};
+    ghost use Rattle.wf_order.specs.Rows.{AreKept, AreRows, begun_rows, total};
+
+    /// The rows of all events.
+    pub fn rows(&self) -> Rows<'_, 'a>
+        ensures rows { (history : List (AnyEvent ObjectCall Reply)) (processes : ℕ) → AreKept history processes self.now → AreRows history processes result }
+        ensures few { (history : List (AnyEvent ObjectCall Reply)) (processes : ℕ) → AreKept history processes self.now → total (begun_rows result) ≤ length history }
+    {
+        Rows {
+            begun: self.begun.as_slice(),
+            ended: self.ended.as_slice(),
+            events: self.events,
+        }
+    }
 }
 
-impl<'a> Rows<'a> {
-    ghost use Rattle.std.specs.Prelude.{◌≡◌, ◌+◌, ◌^◌, ◌<◌, IsSome, option_map, slice_get};
-    ghost use Rattle.wf_order.specs.Rows.{begun_rows, ended_rows, row_of};
+impl<'r, 'a> Rows<'r, 'a> {
+    ghost use Rattle.std.specs.Prelude.{◌≡◌, ◌+◌, ◌^◌, ◌<◌, ◌≤◌, ℕ, List, length, take, IsSome, option_map, slice_get};
+    ghost use Rattle.ob_interface.specs.Call.{ObjectCall, Reply};
+    ghost use Rattle.wf_history.specs.History.{Event as AnyEvent};
+    ghost use Rattle.wf_order.specs.Rows.{AreRows, begun_rows, ended_rows, row_of};
+
+    /// The rows of the first events, so many.
+    pub fn first(&self, count: usize) -> Rows<'r, 'a>
+        ensures { (history : List (AnyEvent ObjectCall Reply)) (processes : ℕ) → AreRows history processes self.now → count ≤ length history
+            → AreRows (take count history) processes result }
+    {
+        Rows {
+            begun: self.begun,
+            ended: self.ended,
+            events: count,
+        }
+    }
 
     /// A call by its process and its place in the row.
     pub fn begun_at(&self, process: usize, place: usize) -> Option<Begun<'a>>
         ensures item { result ≡ slice_get (row_of (begun_rows self.now) process) place }
         ensures room { IsSome result → place + 1 < 2 ^ 64 }
     {
-        self.begun.get(process)?.get(place).copied()
+        let begun = *self.begun.get(process)?.get(place)?;
+        if begun.place >= self.events {
+            return None;
+        }
+        Some(begun)
     }
 
     /// A reply by its process and its place in the row.
     pub fn ended_at(&self, process: usize, place: usize) -> Option<Ended<'a>>
         ensures { result ≡ slice_get (row_of (ended_rows self.now) process) place }
     {
-        self.ended.get(process)?.get(place).copied()
+        let ended = *self.ended.get(process)?.get(place)?;
+        if ended.place >= self.events {
+            return None;
+        }
+        Some(ended)
     }
 
     /// The reply alone.
@@ -103,10 +137,10 @@ fn note<'a>(
 }
 
 /// The rows of these events, which are of so many processes.
-pub fn rows_of(alloc: Global, events: &[Event], processes: usize) -> Result<Rows<'_>, NoMemory>
+pub fn rows_of(alloc: Global, events: &[Event], processes: usize) -> Result<KeptRows<'_>, NoMemory>
     requires history { IsHistory (map event_of events.now) }
     requires few { (event : AnyEvent ObjectCall Reply) → Contains (map event_of events.now) event → IsOfProcesses processes event }
-    ensures { IfOk result (λ rows. AreRows (map event_of events.now) processes rows) }
+    ensures { IfOk result (AreKept (map event_of events.now) processes) }
 {
     // Half of the events begin a call, and mostly each process begins as many: so much memory is taken at once.
     let room = events.len() / 2 / processes.max(1);
@@ -115,38 +149,11 @@ pub fn rows_of(alloc: Global, events: &[Event], processes: usize) -> Result<Rows
     for (place, event) in events.iter().enumerate() {
         note(event, place, &mut begun, &mut ended)?;
     }
-    Ok(Rows {
+    Ok(KeptRows {
         begun,
         ended,
         events: events.len(),
     })
-}
-
-/// A number of processes, made large enough for an event.
-fn enough_for(event: &Event, processes: usize) -> Option<usize>
-    ensures enough { IfSome result (λ count. (processes ≤ count) × IsOfProcesses count (event_of event.now)) }
-    ensures least { IfSome result (λ count. (n : ℕ) → processes ≤ n → IsOfProcesses n (event_of event.now) → count ≤ n) }
-    ensures many { result ≡ None → 2 ^ 64 ≤ needed (event_of event.now) }
-{
-    match event.seen() {
-        SeenEvent::Applied(_) => Some(processes),
-        SeenEvent::Begin(id, _) | SeenEvent::End(id, _) => {
-            Some(processes.max(id.process.checked_add(1)?))
-        }
-    }
-}
-
-/// One more than the largest process of the events, if it is a number.
-pub fn processes_of(events: &[Event]) -> Option<usize>
-    ensures enough { IfSome result (λ count. (event : AnyEvent ObjectCall Reply) → Contains (map event_of events.now) event → IsOfProcesses count event) }
-    ensures least { IfSome result (λ count. (n : ℕ) → ((event : AnyEvent ObjectCall Reply) → Contains (map event_of events.now) event → IsOfProcesses n event) → count ≤ n) }
-    ensures many { result ≡ None → 2 ^ 64 ≤ process_count (map event_of events.now) }
-{
-    let mut count = 0;
-    for event in events {
-        count = enough_for(event, count)?;
-    }
-    Some(count)
 }
 
 /// The first place at which a call ends that is not among those counted; where there is none, the number of events.

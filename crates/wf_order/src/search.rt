@@ -9,7 +9,7 @@ ghost use Rattle.wf_history.specs.History.{Event};
 ghost use Rattle.wf_history.specs.View.{event_of};
 ghost use Rattle.wf_order.specs.declared.search.Answer.TheVariants as Answers;
 ghost use Rattle.wf_order.specs.MadeCalls.{AreMade};
-ghost use Rattle.wf_order.specs.Rows.{AreRows};
+ghost use Rattle.wf_order.specs.Rows.{AreRows, begun_rows, total};
 ghost use Rattle.wf_order.specs.Search.{found_in, all_found, ids_of, AreWorded, IsWorded, IsArrival, IsGrown, IsSearch, IsAnswer, IsWholeSearch, IsLed, work};
 ghost use Rattle.wf_order.specs.Steps.{Configuration, IsDone, IsLimit, start_at};
 
@@ -148,7 +148,7 @@ fn advance_from<'a, O: Object>(
         limit,
         process: last,
     };
-    if is_stood_for(task, seen, &way, &there, calls)? {
+    if is_stood_for(task, seen, &way, &mut there, calls)? {
         return Ok(None);
     }
     let arrived = arrive(task, seen, stack, there, limit)?;
@@ -211,6 +211,7 @@ pub(crate) fn search<O: Object>(
     most: usize,
 ) -> Result<Answer, NoMemory>
     requires rows { AreRows (map event_of task.now.events.now) processes task.now.rows.now }
+    requires calls { total (begun_rows task.now.rows.now) ≤ length task.now.events.now }
     requires empty { index_set_len seen.old ≡ 0 }
     ensures answer { IfOk result (IsAnswer (O.effect task.now.object.now) (O.opening task.now.object.now) (map event_of task.now.events.now) processes most) }
     ensures whole { IfOk result (λ answer. answer ≡ Answers.NoOrder

@@ -16,7 +16,7 @@ pub trait Object {
     ghost use Rattle.ob_interface.specs.Call.{Reply as AnyReply};
     ghost use Rattle.ob_interface.specs.View.{reply_of};
     ghost use Rattle.wf_history.specs.View.{seen_call, seen_reply};
-    ghost use Rattle.wf_order.specs.Rules.{IsOutcome};
+    ghost use Rattle.wf_order.specs.Rules.{IsOutcome, RepliesAlike};
 
     /// How a state is kept.
     type State: Drop;
@@ -84,6 +84,12 @@ pub trait Object {
     /// takes longer, and answers as well.
     fn is_reader(&self, call: SeenCall) -> bool
         ensures { IsTrue result → (before after : Meaning) (reply : AnyReply) → effect self.now (seen_call call.entry) before after reply → before ≡ after };
+
+    /// Whether the reply of a call depends on its procedure and the state alone: where another call of the procedure has a reply, this one has it
+    /// too. Where it says no of a call of which this is so, a search takes longer, and answers as well.
+    fn replies_by_state(&self, call: SeenCall) -> bool
+        ensures { IsTrue result → (other : ObjectCall) → other.export ≡ (seen_call call.entry).export
+            → RepliesAlike (effect self.now other) (effect self.now (seen_call call.entry)) };
 
     /// A call has one outcome.
     ghost determined: { (object : Self) (call : ObjectCall) (before after other : Meaning) (reply answer : Reply)

@@ -10,8 +10,9 @@ ghost use Rattle.wf_order.specs.Steps.{IsLimit};
 ghost use Rattle.wf_order.specs.Turns.{IsNextOf};
 
 use crate::hints::Wanted;
+use crate::kept_rows::Rows;
 use crate::next_call::Next;
-use crate::rows::{Begun, Ended, Rows};
+use crate::rows::{Begun, Ended};
 use crate::searched_object::Object;
 use crate::step::{Here, Task};
 use wf_lookup::compared_replies::{are_same_replies, is_same_call};

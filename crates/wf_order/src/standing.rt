@@ -1,7 +1,7 @@
 //! Which configurations need not be gone on from, since one that was found stands for them. Two writes come one behind the other, and nobody reads the
 //! first: then it comes as well behind the second, if what may come next doesn't ask which of both was the last one.
 
-ghost use Rattle.std.specs.Prelude.{◌≡◌, ◌<◌, ℕ, List, length, IfOk, IfSome, OnOk, IsTrue, slice_get};
+ghost use Rattle.std.specs.Prelude.{◌≡◌, ◌<◌, ℕ, List, length, IfOk, IfSome, OnOk, IsTrue, slice_get, slice_set};
 ghost use Rattle.ob_interface.specs.Call.{ObjectCall, Reply};
 ghost use Rattle.wf_history.specs.History.{Event};
 ghost use Rattle.wf_order.specs.MadeCalls.{AreMade};
@@ -14,10 +14,9 @@ use crate::made_calls::{MadeCalls, does_so, replies_so};
 use crate::next_call::next_of;
 use crate::rows::limit_of;
 use crate::searched_object::Object;
-use crate::seen::{Found, Seen};
+use crate::seen::{Counts, Found, Seen};
 use crate::step::{Here, Task, one_more, step_by};
 use ob_interface::NoMemory;
-use smallvec::SmallVec;
 
 /// A way to a configuration with this limit: from the one at this place, to which the last step was by a call of this process.
 #[derive(Drop)]
@@ -27,48 +26,46 @@ pub(crate) struct Way {
     pub process: Option<usize>,
 }
 
-/// The configuration that takes one call of a process less, and has the same state, if it stands before a place among what was found.
+/// So many calls of a process.
+fn set_count(counts: &mut Counts, process: usize, count: u32)
+    ensures { counts.new.items ≡ slice_set counts.old.items process count }
+{
+    if let Some(taken) = counts.get_mut(process) {
+        *taken = count;
+    }
+}
+
+/// The configuration that takes one call of a process less, and has the same state, if it stands before a place among what was found. It is looked up
+/// with the count changed in place, which is put back.
 fn found_before<'s, O: Object>(
     task: &Task<O>,
     seen: &'s Seen<O::State>,
     place: usize,
-    there: &Found<O::State>,
+    there: &mut Found<O::State>,
     process: usize,
-) -> Result<Option<&'s Found<O::State>>, NoMemory>
-    ensures { IfOk result (λ o. IfSome o (λ first. IsBeforePlace seen.now.keys place first.now)) }
+) -> Option<&'s Found<O::State>>
+    ensures found { IfSome result (λ first. IsBeforePlace seen.now.keys place first.now) }
+    ensures same { found_in O.meaning there.new ≡ found_in O.meaning there.old }
+    ensures words { IsWorded O.meaning O.words_of there.old → IsWorded O.meaning O.words_of there.new }
 {
-    let Some(taken) = there.counts.get(process) else {
-        return Ok(None);
+    let Some(count) = there.counts.get(process) else {
+        return None;
     };
-    let Some(less) = taken.checked_sub(1) else {
-        return Ok(None);
-    };
+    let taken = *count;
+    let less = taken.checked_sub(1)?;
     // A call that only reads has come as soon as it might.
-    let Some(begun) = task.rows.begun_at(process, less as usize) else {
-        return Ok(None);
-    };
+    let begun = task.rows.begun_at(process, less as usize)?;
     if task.object.is_reader(begun.call) {
-        return Ok(None);
+        return None;
     }
-    let alloc = task.alloc;
-    let mut counts = SmallVec::from_slice(alloc, there.counts.as_slice())?;
-    if let Some(count) = counts.get_mut(process) {
-        *count = less;
-    }
-    let words = SmallVec::from_slice(alloc, there.words.as_slice())?;
-    let state = task.object.copy(alloc, &there.state)?;
-    let wanted = Found {
-        counts,
-        words,
-        state,
-    };
-    let Some((at, first)) = seen.get_full(&wanted) else {
-        return Ok(None);
-    };
+    set_count(&mut there.counts, process, less);
+    let found = seen.get_full(&*there);
+    set_count(&mut there.counts, process, taken);
+    let (at, first) = found?;
     if at >= place {
-        return Ok(None);
+        return None;
     }
-    Ok(Some(first))
+    Some(first)
 }
 
 /// Whether the next call of a process does on another configuration's state what it does here, if it may come; or it only reads, and has another
@@ -146,16 +143,18 @@ pub(crate) fn is_stood_for<'a, O: Object>(
     task: &Task<'_, 'a, O>,
     seen: &Seen<O::State>,
     way: &Way,
-    there: &Found<O::State>,
+    there: &mut Found<O::State>,
     calls: &mut MadeCalls<'a, O::State>,
 ) -> Result<bool, NoMemory>
     requires all_worded { AreWorded O.meaning O.words_of seen.now }
-    requires worded { IsWorded O.meaning O.words_of there.now }
+    requires worded { IsWorded O.meaning O.words_of there.old }
     requires made { AreMade O.meaning O.words_of (O.effect task.now.object.now) calls.old }
     ensures made { OnOk result (AreMade O.meaning O.words_of (O.effect task.now.object.now) calls.new) }
-    ensures stands { (history : List (Event ObjectCall Reply)) (from : Configuration O.Meaning) → AreRows history (length there.now.counts.items) task.now.rows.now
-        → IsLimit history there.now.counts.items way.now.limit → slice_get (all_found O.meaning seen.now) way.now.place ≡ Some from
-        → IfOk result (λ stands. IsTrue stands → IsStoodFor (O.effect task.now.object.now) history (all_found O.meaning seen.now) from (found_in O.meaning there.now)) }
+    ensures same { OnOk result (found_in O.meaning there.new ≡ found_in O.meaning there.old) }
+    ensures worded { OnOk result (IsWorded O.meaning O.words_of there.new) }
+    ensures stands { (history : List (Event ObjectCall Reply)) (from : Configuration O.Meaning) → AreRows history (length there.old.counts.items) task.now.rows.now
+        → IsLimit history there.old.counts.items way.now.limit → slice_get (all_found O.meaning seen.now) way.now.place ≡ Some from
+        → IfOk result (λ stands. IsTrue stands → IsStoodFor (O.effect task.now.object.now) history (all_found O.meaning seen.now) from (found_in O.meaning there.old)) }
 {
     let Some(process) = way.process else {
         return Ok(false);
@@ -164,7 +163,7 @@ pub(crate) fn is_stood_for<'a, O: Object>(
     if way.place >= seen.len() {
         return Ok(false);
     }
-    let Some(first) = found_before(task, seen, way.place, there, process)? else {
+    let Some(first) = found_before(task, seen, way.place, there, process) else {
         return Ok(false);
     };
     let Some(next) = next_of(task.rows, &first.counts, process) else {
@@ -178,5 +177,5 @@ pub(crate) fn is_stood_for<'a, O: Object>(
     if last.counts.as_slice() != there.counts.as_slice() {
         return Ok(false);
     }
-    are_all_so(task, &here_at(there, way.limit), &last, calls)
+    are_all_so(task, &here_at(&*there, way.limit), &last, calls)
 }

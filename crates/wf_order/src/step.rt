@@ -12,9 +12,10 @@ ghost use Rattle.wf_order.specs.Steps.{one_more};
 ghost use Rattle.wf_order.specs.Turns.{IsNextOf};
 
 use crate::hints::{Hints, Wanted};
+use crate::kept_rows::Rows;
 use crate::made_calls::{MadeCalls, outcome};
 use crate::next_call::Next;
-use crate::rows::{Begun, Ended, Rows};
+use crate::rows::{Begun, Ended};
 use crate::searched_object::Object;
 use crate::seen::{Counts, Found, Seen};
 use ob_interface::{NoMemory, call};
@@ -29,7 +30,7 @@ pub(crate) struct Task<'r, 'a, O> {
     pub alloc: Global,
     pub events: &'a [Event],
     pub object: &'a O,
-    pub rows: &'r Rows<'a>,
+    pub rows: &'r Rows<'r, 'a>,
     pub hints: &'r Hints,
 }
 

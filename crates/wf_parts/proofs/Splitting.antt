@@ -10,7 +10,7 @@ use Rattle.ob_interface.specs.declared.scalar.Scalar.{Scalar}
 use Rattle.wf_history.proofs.Positions.{contains_at, one_item, place_here, place_left, place_of, place_push, take_next}
 use Rattle.wf_history.specs.declared.event.CallId.{CallId}
 use Rattle.wf_history.specs.History.{Event, Begin, Applied, End, IsHistory}
-use Rattle.wf_order.proofs.Turns.{front_whole}
+use Rattle.wf_lookup.proofs.Turns.{front_whole}
 use Rattle.wf_order.specs.Rows.{call_at}
 use Rattle.wf_parts.proofs.Picking.{one_value, same_label, values_known, values_new, values_quiet}
 use Rattle.wf_parts.proofs.Seating.{is_call_at}

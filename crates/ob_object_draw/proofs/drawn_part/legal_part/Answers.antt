@@ -7,7 +7,7 @@ use Rattle.ob_object_draw.specs.Parts.{IsFaultIn, IsLegalIn, effect_in, opening_
 use Rattle.ob_text_reading.specs.Names.{named_id}
 use Rattle.wf_history.specs.History.{Event, IsHistory}
 use Rattle.wf_history.specs.View.{event_of}
-use Rattle.wf_order.proofs.Turns.{take_whole}
+use Rattle.wf_lookup.proofs.Turns.{take_whole}
 use Rattle.wf_order.specs.Verdict.{HasLegal}
 use Rattle.ob_object_draw.proofs.drawn_part.legal_part.Goals as goal
 

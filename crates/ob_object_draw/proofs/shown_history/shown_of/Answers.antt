@@ -8,7 +8,7 @@ use Rattle.ob_object_draw.proofs.Seen.{fault_apart, fault_heard, shows_heard}
 use Rattle.ob_object_search.proofs.Recorded.{many_heard}
 use Rattle.ob_store.specs.View.{state_of}
 use Rattle.ob_text_reading.specs.Names.{named, named_all}
-use Rattle.wf_order.specs.Beginnings.{process_count}
+use Rattle.wf_lookup.specs.Beginnings.{process_count}
 use Rattle.wf_history.specs.History.{Event}
 use Rattle.ob_object_draw.proofs.shown_history.shown_of.Goals as goal
 

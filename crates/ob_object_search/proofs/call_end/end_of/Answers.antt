@@ -4,7 +4,7 @@ use Rattle.ob_interface.specs.Call.{ObjectCall, Reply}
 use Rattle.ob_object_search.proofs.Ended.{no_end_at_all, no_end_more}
 use Rattle.wf_history.specs.History.{Event}
 use Rattle.wf_history.specs.View.{event_of}
-use Rattle.wf_order.proofs.Lists.{item_here}
+use Rattle.wf_lookup.proofs.Items.{item_here}
 use Rattle.ob_object_search.proofs.call_end.end_of.Goals as goal
 
 pub returns-in-Some : goal.returns-in-Some

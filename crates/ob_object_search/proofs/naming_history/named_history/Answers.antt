@@ -5,7 +5,7 @@ use Rattle.ob_object_search.proofs.Copied.{copied_next, copied_whole}
 use Rattle.ob_text_reading.specs.Names.{AreBelow, named, named_all}
 use Rattle.wf_history.specs.History.{Event, IsHistory}
 use Rattle.wf_history.specs.View.{event_of}
-use Rattle.wf_order.proofs.Lists.{item_here}
+use Rattle.wf_lookup.proofs.Items.{item_here}
 use Rattle.ob_object_search.proofs.naming_history.named_history.Goals as goal
 
 pub push_seen-requires : goal.push_seen-requires

@@ -9,7 +9,7 @@ use Rattle.ob_object_search.proofs.Recorded.{enough_found, fault_found, lawful_f
 use Rattle.ob_object_search.proofs.Recordings.{search_decided}
 use Rattle.ob_store.specs.View.{state_of}
 use Rattle.ob_text_reading.specs.Names.{named_all}
-use Rattle.wf_order.specs.Beginnings.{process_count}
+use Rattle.wf_lookup.specs.Beginnings.{process_count}
 use Rattle.wf_history.specs.History.{Event}
 use Rattle.wf_history.specs.Legal.{IsLegal}
 use Rattle.wf_history.specs.declared.event.CallId.{CallId}

@@ -6,7 +6,7 @@ use Rattle.ob_object_search.specs.Parted.{PartOrder}
 use Rattle.ob_object_search.specs.View.{orders_in}
 use Rattle.ob_store.specs.View.{state_of}
 use Rattle.wf_history.proofs.Positions.{take_next}
-use Rattle.wf_order.proofs.Lists.{item_here}
+use Rattle.wf_lookup.proofs.Items.{item_here}
 use Rattle.wf_parts.specs.Numbering.{PartView}
 use Rattle.wf_parts.specs.View.{part_in, parts_in}
 use Rattle.ob_object_search.proofs.searching_parts.orders_found.Goals as goal

@@ -14,12 +14,12 @@ use Rattle.ob_object_search.specs.EndEvidence.{EndsNowhere}
 use Rattle.ob_object_search.proofs.Recorded.{fault_heard, fault_there, legal_found, needed_there}
 use Rattle.ob_store.specs.View.{state_of}
 use Rattle.ob_text_reading.specs.Names.{AreBelow, named_all, named_id}
-use Rattle.wf_order.specs.Beginnings.{open_calls}
+use Rattle.wf_lookup.specs.Beginnings.{open_calls}
 use Rattle.wf_history.specs.History.{Event, End, IsHistory}
 use Rattle.wf_history.specs.Legal.{IsLegal}
 use Rattle.wf_history.specs.View.{event_of}
 use Rattle.wf_needed.specs.Needed.{NoneIsNeedless}
-use Rattle.wf_order.proofs.Turns.{take_whole}
+use Rattle.wf_lookup.proofs.Turns.{take_whole}
 use Rattle.ob_object_search.proofs.witness.evidence_of_heard.Goals as goal
 
 abbrev Events : Type 0

@@ -1,7 +1,6 @@
 -- An equal call comes sooner, or the reply is another one.
-use Rattle.std.proofs.Common.{refl, ap, sym, subst, ◌∙◌, get_or, Option, option_map}
-use Rattle.ob_interface.specs.Call.{ObjectCall, Reply}
-use Rattle.ob_interface.specs.View.{reply_of}
+use Rattle.std.proofs.Common.{refl, ap, sym, ◌∙◌, get_or, Option, option_map}
+use Rattle.ob_interface.specs.Call.{Reply}
 use Rattle.wf_history.specs.View.{seen_reply}
 use Rattle.wf_order.specs.declared.rows.Ended.{Ended}
 use Rattle.wf_order.specs.Search.{found_in}
@@ -30,11 +29,7 @@ returns g c = λ history found at yes.
     let effect = g.O.Object.effect c.args.task.now.object.now in
     let end = c.in-Some.end in
     let other = c.replies_otherwise.ensures yes in
-    let made = other.made in
-    let is = other.is in
-    let call = subst (λ (x : ObjectCall). effect x here.state (g.O.Object.meaning made.state) (reply_of made.reply)) is.call_is
-    (c.requires.made.each other.row made is.at here.state (sym c.requires.worded ∙ sym is.words_are)) in
     let reply : Option Ended → Option Reply = λ o. option_map seen_reply (option_map (λ (e : Ended). e.reply) o) in
     none_answered effect history found here next.process
     (none_agrees effect (λ call. g.met.O.Object.determined c.args.task.now.object.now call) history c.args.task.now.rows.now here at.0 c.args.here.now.limit at.1 next.process (get_or here.counts next.process 0) refl next.begun c.requires.next.begun
-    (g.O.Object.meaning made.state, reply_of made.reply, call, seen_reply end.reply, ap reply (c.requires.next.ended ∙ c.in-Some.is), λ e. other.other (sym e)))
+    (other.after, other.answer, other.effect, seen_reply end.reply, ap reply (c.requires.next.ended ∙ c.in-Some.is), λ e. other.other (sym e)))

@@ -1,14 +1,23 @@
 -- The events are the history's.
-use Rattle.std.proofs.Common.{◌≡◌, sym, ap, ◌∙◌, subst, ℕ, List, length, arith}
+use Rattle.std.proofs.Common.{◌≡◌, sym, ap, ◌∙◌, subst, ℕ, List, length, map, arith}
 use Rattle.std.proofs.lemmas.List.{length-map}
 use Rattle.std.specs.Prelude.{IfOk}
 use Rattle.ob_interface.specs.Call.{ObjectCall, Reply}
 use Rattle.wf_history.specs.History.{Event}
 use Rattle.wf_history.specs.View.{event_of}
-use Rattle.wf_order.specs.Rows.{AreOfProcesses}
+use Rattle.wf_lookup.specs.Beginnings.{AreOfProcesses}
 use Rattle.wf_order.specs.Verdict.{IsVerdict, enough}
 use Rattle.wf_order.proofs.Bounds.{enough_more}
 use Rattle.wf_order.proofs.find.find_order.Goals as goal
+
+pub verdict_of-requires-clause-rows : goal.verdict_of-requires-clause-rows
+verdict_of-requires-clause-rows g c = c.rows-rows.ensures.rows (map event_of c.events-events.result.now) c.in-Some.processes c.in_ok-kept.ensures
+
+pub verdict_of-requires-clause-calls : goal.verdict_of-requires-clause-calls
+verdict_of-requires-clause-calls g c =
+    let few = c.rows-rows.ensures.few (map event_of c.events-events.result.now) c.in-Some.processes c.in_ok-kept.ensures in
+    let size = length-map c.events-events.result.now event_of in
+    omega (arith, few, size)
 
 pub returns-clause-verdict : goal.returns-clause-verdict
 returns-clause-verdict g c =

@@ -1,14 +1,14 @@
 -- By the rows of the first events.
-use Rattle.std.proofs.Common.{sym, subst, List, map}
-use Rattle.std.proofs.lemmas.List.{take-map}
+use Rattle.std.proofs.Common.{sym, subst, List, map, take, arith}
+use Rattle.std.proofs.lemmas.List.{length-map, take-map}
 use Rattle.std.specs.Prelude.{IfOk}
 use Rattle.ob_interface.specs.Call.{ObjectCall, Reply}
 use Rattle.wf_history.specs.History.{Event, IsHistory}
 use Rattle.wf_history.specs.View.{event_of}
-use Rattle.wf_order.specs.Rows.{AreOfProcesses}
+use Rattle.wf_lookup.specs.Beginnings.{AreOfProcesses}
 use Rattle.wf_order.specs.Search.{IsAnswer}
 use Rattle.wf_order.proofs.Beginnings.{taken_few}
-use Rattle.wf_order.proofs.Turns.{take_whole}
+use Rattle.wf_lookup.proofs.Turns.{take_whole}
 use Rattle.wf_order.proofs.find.front_answer.Goals as goal
 
 pub rows_of-requires-clause-history : goal.rows_of-requires-clause-history
@@ -23,6 +23,16 @@ rows_of-requires-clause-few g c =
     let same = sym (take-map event_of c.args.count c.args.question.now.events.now) in
     subst (λ (es : List (Event ObjectCall Reply)). AreOfProcesses c.args.question.now.processes es) (sym same)
     (taken_few (g.O.Object.effect c.args.question.now.object.now) all c.requires.history c.args.question.now.processes c.requires.few (g.O.Object.opening c.args.question.now.object.now) c.args.count)
+
+pub search-requires-clause-rows : goal.search-requires-clause-rows
+search-requires-clause-rows g c = c.rows-rows.ensures.rows (map event_of (take c.args.count c.args.question.now.events.now)) c.args.question.now.processes c.in_ok-kept.ensures
+
+pub search-requires-clause-calls : goal.search-requires-clause-calls
+search-requires-clause-calls g c =
+    let events = take c.args.count c.args.question.now.events.now in
+    let few = c.rows-rows.ensures.few (map event_of events) c.args.question.now.processes c.in_ok-kept.ensures in
+    let size = length-map events event_of in
+    omega (arith, few, size)
 
 pub returns : goal.returns
 returns g c =

@@ -2,29 +2,22 @@
 use Rattle.std.proofs.Common.{sym, ap, ◌∙◌, subst, List, ◌≤◌, length, map, take, false, arith}
 use Rattle.std.proofs.lemmas.List.{length-map, take-map, take_at}
 use Rattle.ob_interface.specs.Call.{ObjectCall, Reply}
-use Rattle.wf_history.specs.History.{Event, IsHistory}
+use Rattle.wf_history.specs.History.{Event}
 use Rattle.wf_history.specs.View.{event_of}
 use Rattle.wf_order.specs.Fronts.{IsFound}
-use Rattle.wf_order.specs.Rows.{AreOfProcesses}
+use Rattle.wf_order.specs.Rows.{AreRows}
 use Rattle.wf_order.specs.Search.{all_found, IsLed, IsSearch}
 use Rattle.wf_order.specs.Steps.{start_at}
-use Rattle.wf_order.proofs.Beginnings.{taken_few}
 use Rattle.wf_order.proofs.Fronts.{search_of_front, sized}
-use Rattle.wf_order.proofs.Turns.{take_whole}
 use Rattle.wf_order.proofs.find.front_by_found.Goals as goal
 
-pub rows_of-requires-clause-history : goal.rows_of-requires-clause-history
-rows_of-requires-clause-history g c =
-    let all = map event_of c.args.question.now.events.now in
-    let same = sym (take-map event_of c.args.count c.args.question.now.events.now) in
-    subst (λ (es : List (Event ObjectCall Reply)). IsHistory es) (sym same) (take_whole c.args.count all c.requires.history)
-
-pub rows_of-requires-clause-few : goal.rows_of-requires-clause-few
-rows_of-requires-clause-few g c =
-    let all = map event_of c.args.question.now.events.now in
-    let same = sym (take-map event_of c.args.count c.args.question.now.events.now) in
-    subst (λ (es : List (Event ObjectCall Reply)). AreOfProcesses c.args.question.now.processes es) (sym same)
-    (taken_few (g.O.Object.effect c.args.question.now.object.now) all c.requires.history c.args.question.now.processes c.requires.few (g.O.Object.opening c.args.question.now.object.now) c.args.count)
+pub go_on-requires-clause-rows : goal.go_on-requires-clause-rows
+go_on-requires-clause-rows g c =
+    let events = c.args.question.now.events.now in
+    let size = length-map events event_of in
+    let few = c.requires.within in
+    subst (λ (es : List (Event ObjectCall Reply)). AreRows es c.args.question.now.processes c.first-rows.result) (take-map event_of c.args.count events)
+    (c.first-rows.ensures (map event_of events) c.args.question.now.processes c.requires.rows (omega (arith, size, few)))
 
 pub go_on-requires-clause-search : goal.go_on-requires-clause-search
 go_on-requires-clause-search g c =

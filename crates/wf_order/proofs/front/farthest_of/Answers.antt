@@ -8,8 +8,8 @@ use Rattle.wf_order.specs.Fronts.{AreSized, IsFarthest, IsWithin}
 use Rattle.wf_order.specs.Rows.{AreRows}
 use Rattle.wf_order.specs.Steps.{IsLimit}
 use Rattle.wf_order.proofs.Fronts.{farther_new, farther_old, farthest_again, farthest_one, farthest_start, kept_counts}
-use Rattle.wf_order.proofs.Lists.{item_here}
-use Rattle.wf_order.proofs.Turns.{slice_get_some}
+use Rattle.wf_lookup.proofs.Items.{item_here}
+use Rattle.wf_lookup.proofs.Turns.{slice_get_some}
 use Rattle.wf_order.proofs.front.farthest_of.Goals.{then-limit-farthest, else-limit-farthest}
 use Rattle.wf_order.proofs.front.farthest_of.Goals as goal
 

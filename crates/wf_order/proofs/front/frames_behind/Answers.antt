@@ -9,7 +9,7 @@ use Rattle.wf_order.specs.Fronts.{AreFramed, AreSized, EndsBefore}
 use Rattle.wf_order.specs.Rows.{AreRows}
 use Rattle.wf_order.specs.Steps.{IsLimit}
 use Rattle.wf_order.proofs.Fronts.{framed_none, framed_one, framed_start, kept_counts}
-use Rattle.wf_order.proofs.Lists.{item_here}
+use Rattle.wf_lookup.proofs.Items.{item_here}
 use Rattle.wf_order.proofs.front.frames_behind.Goals.{then-goes_behind+in_ok-push, else-goes_behind}
 use Rattle.wf_order.proofs.front.frames_behind.Goals as goal
 

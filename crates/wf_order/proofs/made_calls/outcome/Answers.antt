@@ -10,8 +10,8 @@ use Rattle.wf_order.proofs.made_calls.outcome.Goals as goal
 pub returns-then-not-is_same_reply-clause-outcome : goal.returns-then-not-is_same_reply-clause-outcome
 returns-then-not-is_same_reply-clause-outcome g c =
     let has = c.in_ok-row.ensures.there in
-    let made = c.in-Some.made.now in
-    let is : made ≡ has.made = same_Some made has.made (sym (ap option_copied c.in-Some.is) ∙ c.made_at.ensures ∙ has.at) in (
+    let made = c.in-Some-made_at.made.now in
+    let is : made ≡ has.made = same_Some made has.made (sym (ap option_copied c.in-Some-made_at.is) ∙ c.made_at.ensures ∙ has.at) in (
       g.O.Object.meaning has.made.state,
       reply_of has.made.reply,
       has.effect,

@@ -1,12 +1,14 @@
 -- One turn more comes sooner, or does not.
-use Rattle.std.proofs.Common.{◌≡◌, sym, ap, subst, ◌∙◌, ℕ, suc, ◌+◌, ◌<◌, ◌≤◌, List, [], ◌∷◌, ◌++◌, Some, get_or, take, arith}
+use Rattle.std.proofs.Common.{◌≡◌, sym, ap, subst, ◌∙◌, ℕ, suc, ◌+◌, ◌<◌, ◌≤◌, List, [], ◌∷◌, ◌++◌, Some, get_or, take, true, false, arith}
+use Rattle.std.proofs.Math.Dec.{ltb}
+use Rattle.std.proofs.lemmas.Bool.{leb-true, ltb-false, ltb-true}
 use Rattle.std.proofs.lemmas.Option.{slice_get-get_or}
 use Rattle.wf_order.specs.declared.next_call.Turn.{Turn}
 use Rattle.wf_order.specs.Turns.{IsFirstIn}
 use Rattle.std.specs.List.{slice_get}
 use Rattle.wf_history.proofs.Positions.{take_next}
 use Rattle.wf_order.proofs.Turning.{first_new, first_old}
-use Rattle.wf_order.proofs.next_call.first_turn.Goals.{then-turn-from+then-turn-first, else-turn-from, else-turn-from-via-then-turn-from+else-turn-first, else-turn-from-via-else-turn-from}
+use Rattle.wf_order.proofs.next_call.first_turn.Goals.{then-turn-from, else-turn-from, then-comes_first, else-comes_first}
 use Rattle.wf_order.proofs.next_call.first_turn.Goals as goal
 
 abbrev default : Turn
@@ -32,13 +34,27 @@ loop-turn-preserved c =
     let old = c.loop-turn.first in
     let t = get_or turns i default in
     let here = slice_get-get_or turns i default c.loop-turn-test.true in
-    elim c.if-turn-from.branch [
-      | then-turn-from+then-turn-first w ↦ subst (λ (x : Turn). IsFirstIn (take (i + 1) turns) from limit x) (sym w.first-is)
-          (new_at from limit turns i t old here c.loop-turn.invariant (let low = w.if-turn-from.true in omega (arith, low)) (let less = w.if-turn-first.true in omega (arith, less)))
-      | else-turn-from w ↦
-          let later : from ≤ t.place → old.place ≤ t.place = elim w.else-turn-from.branch [
-            | else-turn-from-via-then-turn-from+else-turn-first v ↦ λ low. let past = v.if-turn-first.false in omega (arith, past)
-            | else-turn-from-via-else-turn-from v ↦ λ low. let early = v.if-turn-from.false in absurd (omega (arith, early, low))
+    elim c.if-comes_first.branch [
+      | then-comes_first w ↦
+          let yes = w.if-comes_first.true in
+          let sooner : (from ≤ t.place) × (t.place < old.place) = elim c.if-turn-from.branch [
+            | then-turn-from v ↦
+                let low = v.if-turn-from.true in
+                let less : ltb t.place old.place ≡ true = sym v.comes_first-is ∙ yes in
+                (omega (arith, low), ltb-true t.place old.place less)
+            | else-turn-from v ↦
+                let low = leb-true from t.place (sym (sym yes ∙ v.comes_first-is)) in
+                let early = v.if-turn-from.false in
+                absurd (omega (arith, low, early))
+          ] in
+          subst (λ (x : Turn). IsFirstIn (take (i + 1) turns) from limit x) (sym w.first-is) (new_at from limit turns i t old here c.loop-turn.invariant sooner.0 sooner.1)
+      | else-comes_first w ↦
+          let no = w.if-comes_first.false in
+          let later : from ≤ t.place → old.place ≤ t.place = elim c.if-turn-from.branch [
+            | then-turn-from v ↦ λ low.
+                let late : ltb t.place old.place ≡ false = sym v.comes_first-is ∙ no in
+                ltb-false t.place old.place late
+            | else-turn-from v ↦ λ low. let early = v.if-turn-from.false in absurd (omega (arith, early, low))
           ] in
           subst (λ (x : Turn). IsFirstIn (take (i + 1) turns) from limit x) (sym w.first-is) (old_at from limit turns i t old here c.loop-turn.invariant later)
     ]

@@ -1,5 +1,5 @@
 -- All that ends before the limit is taken; what ends from there on is looked at.
-use Rattle.std.proofs.Common.{◌≡◌, ◌∙◌, sym, ap, subst, ℕ, ◌≤◌, List, Some, length, map, refl, arith}
+use Rattle.std.proofs.Common.{◌∙◌, sym, ap, subst, ℕ, List, Some, map, arith}
 use Rattle.std.proofs.lemmas.List.{length-map}
 use Rattle.std.proofs.lemmas.Option.{slice_get_within}
 use Rattle.wf_history.specs.History.{End}
@@ -7,7 +7,7 @@ use Rattle.wf_history.specs.View.{event_of}
 use Rattle.wf_history.proofs.Positions.{one_item}
 use Rattle.wf_order.specs.Steps.{IsTaken}
 use Rattle.wf_order.proofs.Limits.{one_further}
-use Rattle.wf_order.proofs.Lists.{item_here}
+use Rattle.wf_lookup.proofs.Items.{item_here}
 use Rattle.wf_order.proofs.Places.{same_end}
 use Rattle.wf_order.proofs.Soundness.{taken_more}
 use Rattle.wf_order.proofs.rows.next_limit.Goals as goal

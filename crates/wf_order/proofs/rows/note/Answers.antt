@@ -8,7 +8,8 @@ use Rattle.wf_history.specs.History.{Event, Applied, IsHistory}
 use Rattle.wf_history.specs.View.{event_of}
 use Rattle.wf_order.specs.declared.rows.Begun.{Begun}
 use Rattle.wf_order.specs.declared.rows.Ended.{Ended}
-use Rattle.wf_order.specs.Rows.{AreNoted, IsOfProcesses, row_of}
+use Rattle.wf_order.specs.Rows.{AreNoted, row_of}
+use Rattle.wf_lookup.specs.Beginnings.{IsOfProcesses}
 use Rattle.wf_order.proofs.Noting.{noted_begin, noted_end, noted_other}
 use Rattle.wf_order.proofs.rows.note.Goals as goal
 

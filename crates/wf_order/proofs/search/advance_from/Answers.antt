@@ -7,7 +7,7 @@ use Rattle.wf_history.specs.View.{event_of}
 use Rattle.wf_order.specs.declared.search.Frame.{Frame}
 use Rattle.wf_order.specs.Rows.{AreRows}
 use Rattle.wf_order.specs.Rules.{IsAnswered}
-use Rattle.wf_order.specs.Search.{found_in, all_found, AreAllAnswered, IsChoice, IsLed}
+use Rattle.wf_order.specs.Search.{found_in, all_found, AreAllAnswered, IsChoice, IsLed, IsPassed}
 use Rattle.wf_order.specs.Steps.{Configuration, IsLimit, IsOneMore, IsStep}
 use Rattle.wf_order.proofs.Arriving.{chosen_tried, top_at, step_rows, after_pop, concluded, stood_for}
 use Rattle.wf_order.proofs.Limits.{limit_moved}
@@ -68,12 +68,15 @@ returns-clause-search g c = λ history processes exact start are h.
     (c.next_limit-limit.ensures here.counts tried.id (subst (λ (xs : List ℕ). IsOneMore here.counts tried.id xs) (sym c.deref-2.ensures) more)
     (limit_moved history events_of processes event_rows.0 rows are event_rows.1 here.counts c.args.frame.limit is_at.1))) in
     let passes = c.in_ok-limit.ensures.passed history own_rows bound in
-    let there = c.passed.new.there in
+    let kept = c.is_stood_for.new.there in
+    let same = c.in_ok-is_stood_for.ensures.same in
     let size = passes_size effect history passes.passes in
     let there_rows = subst (λ (n : ℕ). AreRows history n rows) (sym size) own_rows in
     concluded effect history processes rows are (IsLed effect history exact start) (led_on effect history exact start) start found c.args.stack.now.items frame h here at tried refl refl t.fewer live
-    (λ path. path.items) to (view there) c.push.new.self.items c.passed.new.stack.items (all_found g.O.Object.meaning c.arrive.new.seen) c.arrive.new.stack.items c.in_ok-arrived.arrived t.step t.covers c.in_ok-push.ensures.items passes
-    (c.in_ok-arrived.ensures.arrival history there_rows (c.in_ok-limit.ensures.limit history own_rows bound))
+    (λ path. path.items) to (view kept) c.push.new.self.items c.passed.new.stack.items (all_found g.O.Object.meaning c.arrive.new.seen) c.arrive.new.stack.items c.in_ok-arrived.arrived t.step t.covers c.in_ok-push.ensures.items
+    (subst (λ (d : Configuration g.O.Object.Meaning). IsPassed effect history frame.place to d c.push.new.self.items c.passed.new.stack.items) (sym same) passes)
+    (c.in_ok-arrived.ensures.arrival history (subst (λ (d : Configuration g.O.Object.Meaning). AreRows history (length d.counts) rows) (sym same) there_rows)
+    (subst (λ (d : Configuration g.O.Object.Meaning). IsLimit history d.counts c.in_ok-limit.limit) (sym same) (c.in_ok-limit.ensures.limit history own_rows bound)))
 
 pub returns-then-branch-clause-search : goal.returns-then-branch-clause-search
 returns-then-branch-clause-search g c = λ history processes exact start are h.

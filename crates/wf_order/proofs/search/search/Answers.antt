@@ -8,9 +8,9 @@ use Rattle.wf_history.specs.History.{Event}
 use Rattle.wf_history.specs.View.{event_of}
 use Rattle.wf_history.proofs.Positions.{place_of}
 use Rattle.wf_order.specs.declared.search.Frame.{Frame}
-use Rattle.wf_order.specs.declared.rows.Rows.{Rows}
+use Rattle.wf_order.specs.declared.kept_rows.Rows.{Rows}
 use Rattle.wf_order.specs.declared.seen.Found.{Found}
-use Rattle.wf_order.specs.Rows.{AreRows}
+use Rattle.wf_order.specs.Rows.{AreRows, begun_rows, total}
 use Rattle.wf_order.specs.Search.{found_in, all_found, IsLed, IsSearch, try_cost, work}
 use Rattle.wf_order.specs.Steps.{IsLimit, start_at}
 use Rattle.wf_order.proofs.Completeness.{none_taken}
@@ -57,7 +57,10 @@ loop-frame-init g c =
     let are = start_rows history c.args.processes rows opening start c.in_ok-start.ensures.start c.requires.rows in
     let a = arrival_at effect history _ _ _ _ (λ path. path.items) start (start_at c.args.processes opening) _ _ c.in_ok-start.ensures.start c.in_default.is (c.in_ok-order.ensures.arrival history are (start_limit rows start.counts c.deref.result.now c.limit_of-limit.result c.deref.ensures c.limit_of-limit.ensures history are)) in
     let none = ap (map view) (nil_from_length c.args.seen.now.keys c.requires.empty) in
-    let s = start_search effect history c.args.processes rows c.requires.rows opening (all_found g.O.Object.meaning c.args.seen.now) (all_found g.O.Object.meaning c.arrive.new.seen) c.new-stack.result.items c.arrive.new.stack.items none c.new-stack.ensures.items a in (
+    let size = length-map c.args.task.now.events.now event_of in
+    let calls = c.requires.calls in
+    let few : total (begun_rows rows) ≤ length history = omega (arith, calls, size) in
+    let s = start_search effect history c.args.processes rows c.requires.rows opening (all_found g.O.Object.meaning c.args.seen.now) (all_found g.O.Object.meaning c.arrive.new.seen) c.new-stack.result.items c.arrive.new.stack.items none c.new-stack.ensures.items few a in (
       s.0,
       c.in_ok-order.ensures.worded,
       subst (λ (n : ℕ). n + work c.args.processes rows (all_found g.O.Object.meaning c.arrive.new.seen) c.arrive.new.stack.items ≤ try_cost c.args.processes (length c.args.task.now.events.now + 1)) (length-map c.arrive.new.seen.keys view)

@@ -1,5 +1,5 @@
 -- One process more; at the end all.
-use Rattle.std.proofs.Common.{◌≡◌, subst, ◌∙◌, arith, inl, inr}
+use Rattle.std.proofs.Common.{◌≡◌, subst, arith, inl, inr}
 use Rattle.std.proofs.lemmas.Bool.{cases_lt}
 use Rattle.wf_order.specs.Rules.{AreSo}
 use Rattle.wf_order.specs.Search.{found_in}

@@ -27,9 +27,9 @@ are_equal xs ys b is differs = (slice_eq-Decides {E = eqb} Decides-eqb xs ys (po
 pub step_by-requires-clause-worded : goal.step_by-requires-clause-worded
 step_by-requires-clause-worded g c =
     let keys = c.args.seen.now.keys in
-    let stands = some_at (λ f. IsBeforePlace keys c.args.way.now.place f.now) _ c.in-Some-2.first c.in-Some-2.is c.in_ok-first.ensures in
+    let stands = some_at (λ f. IsBeforePlace keys c.args.way.now.place f.now) _ c.in-Some-found_before.first c.in-Some-found_before.is c.found_before.ensures.found in
     subst (λ (f : Found g.row.O-State.Denot). f.words.items ≡ g.O.Object.words_of (g.O.Object.meaning f.state)) (sym c.here_at-before.ensures.0)
-    (c.requires.all_worded c.in-Some-2.first.now (contains_at keys stands.0 c.in-Some-2.first.now stands.1))
+    (c.requires.all_worded c.in-Some-found_before.first.now (contains_at keys stands.0 c.in-Some-found_before.first.now stands.1))
 
 pub returns-clause-stands : goal.returns-clause-stands
 returns-clause-stands g c = λ history from are bound at_from.
@@ -38,13 +38,16 @@ returns-clause-stands g c = λ history from are bound at_from.
     let rows = c.args.task.now.rows.now in
     let keys = c.args.seen.now.keys in
     let there = c.args.there.now in
+    let kept = c.found_before.new.there in
+    let same = c.found_before.ensures.same in
     let place = c.args.way.now.place in
-    let first = c.in-Some-2.first.now in
+    let first = c.in-Some-found_before.first.now in
     let next = c.in-Some-next_of.next in
-    let after = g.O.Object.meaning c.in-Some-3.state in
+    let after = g.O.Object.meaning c.in-Some-2.state in
     let last = c.in_ok-_id.last in
-    let stands = some_at (λ f. IsBeforePlace keys place f.now) _ c.in-Some-2.first c.in-Some-2.is c.in_ok-first.ensures in
-    let counts : last.counts.items ≡ there.counts.items = sym c.as_slice.ensures ∙ are_equal c.as_slice.result.now c.as_slice-2.result.now c.ne.result c.ne.ensures c.if-ne.false ∙ c.as_slice-2.ensures in
+    let stands = some_at (λ f. IsBeforePlace keys place f.now) _ c.in-Some-found_before.first c.in-Some-found_before.is c.found_before.ensures.found in
+    let own_counts : last.counts.items ≡ kept.counts.items = sym c.as_slice.ensures ∙ are_equal c.as_slice.result.now c.as_slice-2.result.now c.ne.result c.ne.ensures c.if-ne.false ∙ c.as_slice-2.ensures in
+    let counts = own_counts ∙ ap (λ (x : Configuration g.O.Object.Meaning). x.counts) same in
     let led : view last ≡ one_more first.counts.items c.in-Some.process after = c.in_ok-_id.ensures.found in
     let size : length first.counts.items ≡ length there.counts.items =
     sym (length-set first.counts.items c.in-Some.process (get_or first.counts.items c.in-Some.process 0 + 1)) ∙ sym (ap (λ (x : Configuration g.O.Object.Meaning). length x.counts) led) ∙ ap length counts in
@@ -56,14 +59,14 @@ returns-clause-stands g c = λ history from are bound at_from.
       subst (λ (f : Found g.row.O-State.Denot). AreRows history (length f.counts.items) rows) (sym c.here_at-before.ensures.0) own_rows,
       subst (λ (n : ℕ). IsLimit history before.found.now.counts.items n) (sym c.here_at-before.ensures.1) (subst (λ (f : Found g.row.O-State.Denot). IsLimit history f.counts.items c.limit_of.result) (sym c.here_at-before.ensures.0) own_limit),
     ) in
-    let stepped = MatchOption-at_some (HasNoStep effect history (view before.found.now) next.process) (λ s. IsNextStep effect history (view before.found.now) next.process (g.O.Object.meaning s)) c.in-Some-3.state c.in-Some-3.is
+    let stepped = MatchOption-at_some (HasNoStep effect history (view before.found.now) next.process) (λ s. IsNextStep effect history (view before.found.now) next.process (g.O.Object.meaning s)) c.in-Some-2.state c.in-Some-2.is
     (c.in_ok-state.ensures.stepped history at_before) in
     let own = MatchOption-at_some (HasNone rows c.deref.result.now c.in-Some.process) (λ n. (n.process ≡ c.in-Some.process) × IsNextOf rows c.deref.result.now n) next c.in-Some-next_of.is c.next_of.ensures in
     let only = subst (λ (p : ℕ). IsNextStep effect history (view first) p after) own.0 (subst (λ (f : Found g.row.O-State.Denot). IsNextStep effect history (view f) next.process after) c.here_at-before.ensures.0 stepped) in
     let here = c.here_at.result in
     let at_here : IsAt history rows here = (
-      subst (λ (f : Found g.row.O-State.Denot). AreRows history (length f.counts.items) rows) (sym c.here_at.ensures.0) are,
-      subst (λ (n : ℕ). IsLimit history here.found.now.counts.items n) (sym c.here_at.ensures.1) (subst (λ (f : Found g.row.O-State.Denot). IsLimit history f.counts.items c.args.way.now.limit) (sym c.here_at.ensures.0) bound),
+      subst (λ (f : Found g.row.O-State.Denot). AreRows history (length f.counts.items) rows) (sym c.here_at.ensures.0) (subst (λ (x : Configuration g.O.Object.Meaning). AreRows history (length x.counts) rows) (sym same) are),
+      subst (λ (n : ℕ). IsLimit history here.found.now.counts.items n) (sym c.here_at.ensures.1) (subst (λ (f : Found g.row.O-State.Denot). IsLimit history f.counts.items c.args.way.now.limit) (sym c.here_at.ensures.0) (subst (λ (x : Configuration g.O.Object.Meaning). IsLimit history x.counts c.args.way.now.limit) (sym same) bound)),
     ) in
     IfOk-weaker c.are_all_so.result _ _
     (λ so h t. record {
@@ -81,6 +84,6 @@ returns-clause-stands g c = λ history from are bound at_from.
       step = subst (λ (x : Configuration g.O.Object.Meaning). IsStep effect history (view first) (call_at c.in-Some.process (get_or first.counts.items c.in-Some.process 0)) x) (sym led) only.step;
       counts = counts;
       so = λ id call may.
-          subst (λ (f : Found g.row.O-State.Denot). (p : ℕ) → p < length f.counts.items → AreSo effect history (view f) (g.O.Object.meaning last.state) p) c.here_at.ensures.0 (h t) id.process may.process id call refl may;
+          subst (λ (x : Configuration g.O.Object.Meaning). (p : ℕ) → p < length x.counts → AreSo effect history x (g.O.Object.meaning last.state) p) (ap view c.here_at.ensures.0 ∙ same) (h t) id.process may.process id call refl may;
     })
     (c.are_all_so.ensures.so history at_here)

@@ -1,9 +1,9 @@
 use Rattle.std.proofs.Common.{◌∙◌, List, [], ◌∷◌, ◌++◌, ap₂, map, subst, sym}
 use Rattle.ob_interface.specs.Call.{ObjectCall, Reply}
-use Rattle.wf_order.proofs.Nexts.{next_whole, taken_next}
+use Rattle.wf_lookup.proofs.Nexts.{next_whole, taken_next}
 use Rattle.wf_history.specs.History.{Event, IsHistory}
 use Rattle.wf_history.specs.View.{event_of}
-use Rattle.wf_order.proofs.Lists.{item_here}
+use Rattle.wf_lookup.proofs.Items.{item_here}
 use Rattle.wf_parts.proofs.copying.copied.Goals as goal
 
 pub push_seen-requires : goal.push_seen-requires

@@ -3,7 +3,7 @@ use Rattle.std.proofs.lemmas.List.{length-map, take_all}
 use Rattle.std.proofs.lemmas.Result.{err_from_is_err_and}
 use Rattle.wf_history.specs.View.{event_of}
 use Rattle.wf_history.proofs.Positions.{take_next}
-use Rattle.wf_order.proofs.Lists.{item_here}
+use Rattle.wf_lookup.proofs.Items.{item_here}
 use Rattle.wf_parts.proofs.Splitting.{is_next, parts_are, split_none}
 use Rattle.wf_parts.specs.Parts.{Events}
 use Rattle.wf_parts.specs.Split.{AreSplit}

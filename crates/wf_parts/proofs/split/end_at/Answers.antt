@@ -3,7 +3,7 @@ use Rattle.std.proofs.lemmas.List.{length-map, map-set}
 use Rattle.std.proofs.lemmas.Option.{slice_get_within}
 use Rattle.std.proofs.lemmas.Result.{on_ok_weaker}
 use Rattle.wf_history.specs.View.{kept_reply}
-use Rattle.wf_order.proofs.Lists.{item_at}
+use Rattle.wf_lookup.proofs.Items.{item_at}
 use Rattle.wf_parts.specs.Numbering.{PartView}
 use Rattle.wf_parts.specs.Split.{Ends}
 use Rattle.wf_parts.specs.View.{part_in, parts_in}

@@ -1,15 +1,13 @@
 -- By the code, where there is any.
 use Rattle.std.proofs.Common.{◌≡◌, ◌∙◌, ap, subst, sym, List, map}
-use Rattle.std.specs.Prelude.{Option, IfSome, option_map, ◌↔◌}
+use Rattle.std.specs.Prelude.{Option, option_map}
 use Rattle.std.proofs.Math.Logic.{∥∥₁_map}
 use Rattle.ob_checked.specs.CheckedModule.{program_in}
 use Rattle.ob_checked.specs.View.{table_of}
 use Rattle.ob_code_calls.specs.Calls.{asked}
 use Rattle.ob_code_calls.specs.Scalars.{held_of}
-use Rattle.ob_code_calls.specs.Wanted.{IsWanted}
 use Rattle.ob_code_calls.specs.declared.scalar_calls.Led.{Led}
 use Rattle.ob_code_calls.specs.declared.scalar_calls.ScalarCalls.{ScalarCalls}
-use Rattle.ob_interface.specs.Call.{Reply}
 use Rattle.ob_interface.specs.declared.scalar.Scalar.{Scalar}
 use Rattle.ob_object_search.specs.Code.{IsCodeOf, IsLedSo}
 use Rattle.ob_object_search.specs.Kept.{kept_in}
@@ -37,10 +35,8 @@ leads c came named =
     let are = variables_are c.program.result.now program c.as_slice-variables.result.now c.program.ensures.program c.as_slice-variables.ensures.value in
     let coded = subst (λ (code : Option ScalarCalls). ∥ IsCodeOf program o.budget code ∥₁) c.in-Some.is o.coded in
     let same = ap (asked c.args.call.proc) (c.as_slice-arguments.ensures ∙ c.lent-lent.ensures) in
-    let wanted = c.wanted-wanted.result in
-    let is = subst (λ (k : Option Reply). (r : Reply) → IsWanted wanted r ↔ IfSome k (λ x. x ≡ r)) c.new-reply.ensures c.wanted-wanted.ensures in
     let holds = ap (λ (ss : List Scalar). map held_of ss) c.as_slice-scalars.ensures ∙ sym (ap kept_in c.in-Scalars.is) in
-    led_as program o.budget code coded (asked c.args.call.proc c.as_slice-arguments.result.now) (seen_call c.args.call) same c.as_slice-scalars.result.now wanted (option_map seen_reply c.args.known) is
+    led_as program o.budget code coded (asked c.args.call.proc c.as_slice-arguments.result.now) (seen_call c.args.call) same c.as_slice-scalars.result.now (option_map seen_reply c.args.known)
     (kept_in c.args.state.now) holds c.in_ok-led.led (λ has. c.in_ok-led.ensures program types has.compiled are) came named
 
 pub returns-in-To : goal.returns-in-To

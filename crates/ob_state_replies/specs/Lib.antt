@@ -1,0 +1,2 @@
+pub mod AnswersAndNotes
+pub mod StateReplies

@@ -1,0 +1,27 @@
+-- What stands in a row, as far as the events go.
+use Rattle.std.proofs.Common.{◌∙◌, sym, arith}
+use Rattle.std.proofs.lemmas.Bool.{ltb-true}
+use Rattle.wf_order.proofs.Rowing.{reads_item, reads_late, reads_none, row_read}
+use Rattle.wf_order.proofs.kept_rows.Rows.begun_at.Goals as goal
+
+pub returns-in_err-begun-clause-item : goal.returns-in_err-begun-clause-item
+returns-in_err-begun-clause-item c =
+    let rows = c.args.self.now in
+    let row = row_read (λ row. row.items) rows.begun.now c.args.process c.in_ok-get.field-0.now (ltb-true _ _ (sym c.in_ok-get.ensures.lookup.0)) c.in_ok-get.ensures.lookup.1 ∙ sym c.deref.ensures.value in
+    c.from_residual-in_err-begun.ensures ∙ sym (reads_none (λ x. x.place) rows.events (λ row. row.items) rows.begun.now c.args.process c.args.place c.deref.result.now row c.in_err-begun.ensures.lookup.3)
+
+pub returns-then-begun-self-clause-item : goal.returns-then-begun-self-clause-item
+returns-then-begun-self-clause-item c =
+    let rows = c.args.self.now in
+    let row = row_read (λ row. row.items) rows.begun.now c.args.process c.in_ok-get.field-0.now (ltb-true _ _ (sym c.in_ok-get.ensures.lookup.0)) c.in_ok-get.ensures.lookup.1 ∙ sym c.deref.ensures.value in
+    let late = c.if-begun-self.true in
+    sym (reads_late (λ x. x.place) rows.events (λ row. row.items) rows.begun.now c.args.process c.args.place c.deref.result.now row c.in_ok-begun.field-0.now (ltb-true _ _ (sym c.in_ok-begun.ensures.lookup.0)) c.in_ok-begun.ensures.lookup.1
+    (omega (arith, late)))
+
+pub returns-clause-item : goal.returns-clause-item
+returns-clause-item c =
+    let rows = c.args.self.now in
+    let row = row_read (λ row. row.items) rows.begun.now c.args.process c.in_ok-get.field-0.now (ltb-true _ _ (sym c.in_ok-get.ensures.lookup.0)) c.in_ok-get.ensures.lookup.1 ∙ sym c.deref.ensures.value in
+    let early = c.if-begun-self.false in
+    sym (reads_item (λ x. x.place) rows.events (λ row. row.items) rows.begun.now c.args.process c.args.place c.deref.result.now row rows.begun_rise c.in_ok-begun.field-0.now (ltb-true _ _ (sym c.in_ok-begun.ensures.lookup.0))
+    c.in_ok-begun.ensures.lookup.1 (omega (arith, early)))
