@@ -6,8 +6,8 @@ use Rattle.ob_code_scheme.specs.Types.{Scope}
 use Rattle.ob_code_scheme.specs.Scheme.{size, designator_size, actual_size, actuals_size, statement_size, statements_size, branches_size, over_size, over_code, code_at, designator_at, actual_at, actuals_at, statement_at, statements_at, branches_at}
 use Rattle.ob_code_correct.proofs.Lengths.{joined, code_long, designator_long, actual_long, actuals_long, statement_long, statements_long, branches_long}
 use Rattle.ob_code_machine.specs.Code.{CodeParts}
-use Rattle.ob_code_machine.specs.declared.instr.Instr.{Instr}
-use Rattle.ob_code_machine.specs.declared.instr.Instr.TheVariants as Instrs
+use Rattle.ob_code_words.specs.declared.instr.Instr.{Instr}
+use Rattle.ob_code_words.specs.declared.instr.Instr.TheVariants as Instrs
 use Rattle.ob_checked.specs.declared.program.Actual.{Actual}
 use Rattle.ob_checked.specs.declared.program.Branch.{Branch}
 use Rattle.ob_checked.specs.declared.program.Designator.{Designator}

@@ -5,8 +5,8 @@ use Rattle.ob_code_scheme.specs.Types.{Scope, extent, frame_scope, scope_at}
 use Rattle.ob_code_scheme.specs.Scheme.{size, statements_size, code_at, actuals_at, statements_at, branches_at, procedures_at}
 use Rattle.ob_code_correct.proofs.Lengths.{code_long, statements_long}
 use Rattle.ob_code_machine.specs.Code.{CodeParts}
-use Rattle.ob_code_machine.specs.declared.instr.Instr.{Instr}
-use Rattle.ob_code_machine.specs.declared.instr.Instr.TheVariants as Instrs
+use Rattle.ob_code_words.specs.declared.instr.Instr.{Instr}
+use Rattle.ob_code_words.specs.declared.instr.Instr.TheVariants as Instrs
 use Rattle.ob_checked.specs.Types as Given
 use Rattle.ob_checked.specs.declared.program.Actual.{Actual}
 use Rattle.ob_checked.specs.declared.program.Branch.{Branch}

@@ -7,8 +7,8 @@ use Rattle.ob_code_scheme.specs.Types.{Scope, extent, scope_at, parameters_scope
 use Rattle.ob_code_scheme.specs.Scheme as Scheme
 use Rattle.ob_code_correct.proofs.Lengths.{joined, statements_long, procedure_long}
 use Rattle.ob_code_machine.specs.Code.{CodeParts}
-use Rattle.ob_code_machine.specs.declared.instr.Instr.{Instr}
-use Rattle.ob_code_machine.specs.declared.instr.Instr.TheVariants as Instrs
+use Rattle.ob_code_words.specs.declared.instr.Instr.{Instr}
+use Rattle.ob_code_words.specs.declared.instr.Instr.TheVariants as Instrs
 use Rattle.ob_checked.specs.Types as Given
 use Rattle.ob_checked.specs.declared.program.Parameter.{Parameter}
 use Rattle.ob_checked.specs.declared.program.Procedure.{Procedure}

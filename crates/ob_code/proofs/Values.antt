@@ -8,8 +8,8 @@ use Rattle.ob_code_scheme.specs.Types.{Scope, words, part_type, type_at, scope_o
 use Rattle.ob_code_scheme.specs.Scheme.{variable_size, size, designator_size, selectors_size, relation_instruction, operator_at, variable_code, code_at, operations_at, designator_at, selectors_at}
 use Rattle.ob_code_correct.proofs.Lengths.{operator_long, variable_long, code_long, designator_long, selectors_long}
 use Rattle.ob_code_machine.specs.Code.{CodeParts}
-use Rattle.ob_code_machine.specs.declared.instr.Instr.{Instr}
-use Rattle.ob_code_machine.specs.declared.instr.Instr.TheVariants as Instrs
+use Rattle.ob_code_words.specs.declared.instr.Instr.{Instr}
+use Rattle.ob_code_words.specs.declared.instr.Instr.TheVariants as Instrs
 use Rattle.ob_typing.specs.declared.operator.BinaryOperator.TheVariants.{And, Or}
 use Rattle.ob_typing.specs.declared.operator.Relation.{Relation}
 use Rattle.ob_interface.specs.declared.scalar.ScalarType.{ScalarType}

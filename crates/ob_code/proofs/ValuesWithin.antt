@@ -6,8 +6,8 @@ use Rattle.ob_code_scheme.specs.Types.{Scope, Space, Holding, Referring, words, 
 use Rattle.ob_code_scheme.specs.Scheme.{size, selectors_size, variable_size, relation_instruction, operator_at, own_code, variable_code, code_at, operations_at, designator_at, selectors_at}
 use Rattle.ob_code_correct.proofs.Lengths.{code_long}
 use Rattle.ob_code_machine.specs.Code.{CodeParts}
-use Rattle.ob_code_machine.specs.declared.instr.Instr.{Instr}
-use Rattle.ob_code_machine.specs.declared.instr.Instr.TheVariants as Instrs
+use Rattle.ob_code_words.specs.declared.instr.Instr.{Instr}
+use Rattle.ob_code_words.specs.declared.instr.Instr.TheVariants as Instrs
 use Rattle.ob_typing.specs.declared.operator.BinaryOperator.{BinaryOperator}
 use Rattle.ob_typing.specs.declared.operator.BinaryOperator.TheVariants.{And, Or}
 use Rattle.ob_typing.specs.declared.operator.Relation.{Relation}

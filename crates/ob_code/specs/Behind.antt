@@ -2,7 +2,7 @@
 use Rattle.std.specs.Prelude.{ℕ, List, [], ◌∷◌, ◌++◌, ◌+◌, Bool, length, drop}
 use Rattle.ob_typing.specs.Program as Program
 use Rattle.ob_code_machine.specs.Code.{CodeParts}
-use Rattle.ob_code_machine.specs.declared.instr.Instr.TheVariants as Instrs
+use Rattle.ob_code_words.specs.declared.instr.Instr.TheVariants as Instrs
 use Rattle.ob_code_scheme.specs.Scheme as Scheme
 use Rattle.ob_code_scheme.specs.Types.{extent}
 use Rattle.ob_checked.specs.declared.program.Branch.{Branch}

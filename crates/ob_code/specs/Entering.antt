@@ -4,7 +4,7 @@ use Rattle.ob_typing.specs.Program as Program
 use Rattle.ob_code_scheme.specs.Scheme.{procedure_size, statements_at, procedures_at, entries_from}
 use Rattle.ob_code_scheme.specs.Types.{Scope}
 use Rattle.ob_code_machine.specs.Code.{CodeParts}
-use Rattle.ob_code_machine.specs.declared.instr.Instr.TheVariants as Instrs
+use Rattle.ob_code_words.specs.declared.instr.Instr.TheVariants as Instrs
 use Rattle.ob_code.specs.declared.entries.Entries.{Entries}
 
 -- of a procedure that there is not, the end, as never in a checked program

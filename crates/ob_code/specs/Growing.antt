@@ -4,8 +4,8 @@ use Rattle.ob_typing.specs.Program as Program
 use Rattle.ob_code_scheme.specs.Scheme.{size, statements_size, code_at, statements_at}
 use Rattle.ob_code_scheme.specs.Types.{Scope, part_type}
 use Rattle.ob_code_machine.specs.Code.{CodeParts}
-use Rattle.ob_code_machine.specs.declared.instr.Instr.{Instr}
-use Rattle.ob_code_machine.specs.declared.instr.Instr.TheVariants as Instrs
+use Rattle.ob_code_words.specs.declared.instr.Instr.{Instr}
+use Rattle.ob_code_words.specs.declared.instr.Instr.TheVariants as Instrs
 use Rattle.ob_checked.specs.declared.program.Branch.{Branch}
 use Rattle.ob_checked.specs.declared.program.Selector.{Selector}
 use Rattle.ob_checked.specs.declared.program.Selector.TheVariants.{Field, Element}

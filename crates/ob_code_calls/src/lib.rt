@@ -6,7 +6,6 @@
 
 pub mod block_calls;
 mod fitting_arguments;
-mod laid_calls;
 mod noted_calls;
 pub mod room;
 mod running;

@@ -9,9 +9,8 @@ ghost use Rattle.ob_interface.specs.View.{reply_of};
 ghost use Rattle.ob_interface.specs.declared.scalar.Scalar as Scalars;
 ghost use Rattle.wf_table.specs.Meaning.{kept, steps};
 
-use crate::laid_calls::lay_call;
 use crate::wanted_values::are_results;
-use ob_code_engine::call_words::reply_in;
+use ob_code_engine::call_words::{lay, reply_in};
 use ob_code_engine::{CodeEngine, Entrance};
 use ob_code_machine::Body;
 use ob_interface::call::Reply;
@@ -38,13 +37,13 @@ pub(crate) fn begin(
 {
     // The exports stand in memory, so that their numbers are words.
     let _exports = engine.exports();
-    lay_call(proc, arguments, words);
+    lay(proc, arguments, words);
     engine.start(run, words);
 }
 
 /// Steps of a body on a block, at most so many, up to the first behind which it doesn't go on; what the last one answers, and how many
-/// there were. It stands apart, so that what a step of the body needs is at hand in the loop.
-#[inline(never)]
+/// there were.
+#[inline(always)]
 pub(crate) fn run_on(
     engine: &CodeEngine,
     run: &mut Body,
@@ -56,19 +55,8 @@ pub(crate) fn run_on(
     ensures ready { HasReserve engine.now.parts run.new }
     ensures steps { record { turn = result.0; run = run.new; block = block.new } ≡ steps (meaning_of engine.now.parts) most run.old block.old }
 {
-    let mut left = most;
-    while left >= 2 {
-        let (turn, taken) = engine.leap(run, block);
-        left -= taken;
-        match turn {
-            EngineTurn::On => {}
-            turn => return (turn, most - left),
-        }
-    }
-    if left == 0 {
-        return (EngineTurn::On, most);
-    }
-    (engine.step(run, block), most)
+    let (taken, turn) = engine.run_on(run, block, most);
+    (turn, taken)
 }
 
 /// Writes the words of the results of a body that has returned.

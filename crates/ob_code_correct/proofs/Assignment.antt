@@ -12,11 +12,11 @@ use Rattle.ob_code_scheme.specs.Types.{address, IsScalarOf, IsPlace, Fits}
 use Rattle.ob_code_scheme.specs.Temporaries.{statement_temporaries}
 use Rattle.ob_code_scheme.specs.WellFormed.{Designates, IsOf}
 use Rattle.ob_code_scheme.specs.Layout.{word}
-use Rattle.ob_code_machine.specs.declared.instr.Instr.{Instr}
-use Rattle.ob_code_machine.specs.declared.instr.Instr.TheVariants as Instrs
-use Rattle.ob_code_machine.specs.Words.{Made, ◌>>=◌}
-use Rattle.ob_code_machine.specs.Effect.{popped, put_at}
-use Rattle.ob_code_machine.specs.Effect as Effects
+use Rattle.ob_code_words.specs.declared.instr.Instr.{Instr}
+use Rattle.ob_code_words.specs.declared.instr.Instr.TheVariants as Instrs
+use Rattle.ob_code_words.specs.Words.{Made, ◌>>=◌}
+use Rattle.ob_code_words.specs.Effect.{popped, put_at}
+use Rattle.ob_code_words.specs.Effect as Effects
 use Rattle.ob_code_machine.specs.Machine.{Unfinished, made_then, goes_on, act_at, turn}
 use Rattle.ob_code_scheme.specs.Scheme.{size, designator_size, statement_size, entry_of, code_at, designator_at, statement_at, HasAt}
 use Rattle.ob_code_scheme.specs.Image.{position_words, store_words}

@@ -10,10 +10,10 @@ use Rattle.ob_meaning.specs.ByPositionStatements.{activation_of}
 use Rattle.ob_code_scheme.specs.Types.{Scope, extent, total, parameters_scope, frame_scope, FitsHanded, Fits}
 use Rattle.ob_code_scheme.specs.WellFormed.{IsWellFormed}
 use Rattle.ob_code_scheme.specs.Layout.{variable_words}
-use Rattle.ob_code_machine.specs.declared.instr.Instr.{Instr}
-use Rattle.ob_code_machine.specs.declared.instr.Instr.TheVariants as Instrs
-use Rattle.ob_code_machine.specs.Words.{Made, Gives, Sticks, ◌>>=◌}
-use Rattle.ob_code_machine.specs.Effect.{cleared}
+use Rattle.ob_code_words.specs.declared.instr.Instr.{Instr}
+use Rattle.ob_code_words.specs.declared.instr.Instr.TheVariants as Instrs
+use Rattle.ob_code_words.specs.Words.{Made, Gives, Sticks, ◌>>=◌}
+use Rattle.ob_code_words.specs.Effect.{cleared}
 use Rattle.ob_code_machine.specs.declared.saved.Saved.{Saved}
 use Rattle.ob_code_machine.specs.Machine.{Configuration, Unfinished, Trapped, Stuck, made_then, goes_on, taking_turn, entering, called, back_to, act_at}
 use Rattle.ob_code_scheme.specs.Image.{position_words, store_words, Leads, Stops}

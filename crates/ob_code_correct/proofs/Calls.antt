@@ -8,7 +8,7 @@ use Rattle.ob_meaning.specs.ByPositionStatements as Meaning
 use Rattle.ob_code_scheme.specs.Types.{extent, total, parameters_scope, variables_scope, frame_scope, FitsHanded, Fits}
 use Rattle.ob_code_scheme.specs.Temporaries.{most_temporaries}
 use Rattle.ob_code_scheme.specs.Layout.{variable_words}
-use Rattle.ob_code_machine.specs.declared.instr.Instr.TheVariants as Instrs
+use Rattle.ob_code_words.specs.declared.instr.Instr.TheVariants as Instrs
 use Rattle.ob_code_machine.specs.declared.saved.Saved.{Saved}
 use Rattle.ob_code_machine.specs.Machine.{Configuration, Unfinished, turn}
 use Rattle.ob_code_scheme.specs.Scheme.{statements_size, entry_of}

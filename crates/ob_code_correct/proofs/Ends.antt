@@ -7,7 +7,7 @@ use Rattle.ob_meaning.specs.ByNameObject.{results_position, most_activations}
 use Rattle.ob_meaning.specs.ByPositionStore.{Activation, activation_at}
 use Rattle.ob_meaning.specs.ByPositionStatements.{Outcome as Ended, Done, Trap, meaning_of_all, calls}
 use Rattle.ob_meaning.specs.ByPositionObject.{Effect, effect_of, values_of_results}
-use Rattle.ob_code_machine.specs.declared.instr.Instr.{Instr}
+use Rattle.ob_code_words.specs.declared.instr.Instr.{Instr}
 use Rattle.ob_code_machine.specs.Laws.{IsOver}
 use Rattle.ob_code_machine.specs.Machine.{Configuration, Outcome, exec}
 use Rattle.ob_code_machine.proofs.Over.{over_stays}

@@ -3,7 +3,7 @@ use Rattle.std.proofs.Common.{◌≡◌, ℕ, zero, suc, ◌+◌, ◌≤◌, Lis
 use Rattle.std.specs.Prelude.{slice_get}
 use Rattle.ob_typing.specs.Program.{Procedure, Program}
 use Rattle.ob_code_scheme.specs.Types.{Scope, variables_scope}
-use Rattle.ob_code_machine.specs.declared.instr.Instr.{Instr}
+use Rattle.ob_code_words.specs.declared.instr.Instr.{Instr}
 use Rattle.ob_code_scheme.specs.Scheme.{procedure_size, entry_of, procedure_at, procedures_at, entries_from, code_of, HasAt}
 use Rattle.ob_code_correct.proofs.Lengths.{procedure_long}
 use Rattle.ob_code_correct.proofs.Placed.{has_front, has_behind, has_all, has_long}

@@ -16,8 +16,8 @@ use Rattle.ob_code_scheme.specs.Types.{words, part_type, type_at, scope_of, addr
 use Rattle.ob_code_scheme.specs.Temporaries.{behind_operator, temporaries, operations_temporaries, designator_temporaries, selectors_temporaries}
 use Rattle.ob_code_scheme.specs.WellFormed.{IsOf, AreOf, Designates, Selects}
 use Rattle.ob_code_scheme.specs.Layout.{word}
-use Rattle.ob_code_machine.specs.declared.instr.Instr.{Instr}
-use Rattle.ob_code_machine.specs.declared.instr.Instr.TheVariants as Instrs
+use Rattle.ob_code_words.specs.declared.instr.Instr.{Instr}
+use Rattle.ob_code_words.specs.declared.instr.Instr.TheVariants as Instrs
 use Rattle.ob_code_scheme.specs.Scheme.{variable_size, size, operations_size, designator_size, selectors_size, relation_instruction, operator_at, variable_code, code_at, operations_at, designator_at, selectors_at, HasAt}
 use Rattle.ob_code_scheme.specs.Memory.{MemoryHolds}
 use Rattle.ob_code_scheme.specs.Running.{Setting, globals_of, scopes_of, all_of, HasRoom, Evaluates}

@@ -1,10 +1,10 @@
 -- CALL, FRAME and RET.
 use Rattle.std.proofs.Common.{◌≡◌, ℕ, suc, ◌+◌, ◌-◌, ◌<◌, ◌≤◌, Bool, cond, ℤ, pos, List, ◌∷◌, ◌++◌, length, take, replicate, Some, Option, ap, ◌∙◌}
 use Rattle.std.specs.Prelude.{slice_get}
-use Rattle.ob_code_machine.specs.declared.instr.Instr.{Instr}
-use Rattle.ob_code_machine.specs.declared.instr.Instr.TheVariants as Instrs
-use Rattle.ob_code_machine.specs.Words.{Made, Gives, Sticks, ◌>>=◌}
-use Rattle.ob_code_machine.specs.Effect.{cleared}
+use Rattle.ob_code_words.specs.declared.instr.Instr.{Instr}
+use Rattle.ob_code_words.specs.declared.instr.Instr.TheVariants as Instrs
+use Rattle.ob_code_words.specs.Words.{Made, Gives, Sticks, ◌>>=◌}
+use Rattle.ob_code_words.specs.Effect.{cleared}
 use Rattle.ob_code_machine.specs.declared.saved.Saved.{Saved}
 use Rattle.ob_code_machine.specs.Machine.{Configuration, Unfinished, Trapped, Stuck, made_then, goes_on, act_at, turn, taking_turn, entering, back_to}
 use Rattle.ob_code_correct.proofs.Steps.{within, not_within, not_below}

@@ -11,10 +11,10 @@ use Rattle.ob_typing.specs.Program.{DataType}
 use Rattle.ob_meaning.specs.ByPositionStore.{Place, Store, activation_at}
 use Rattle.ob_code_scheme.specs.Types.{extent, total, address as place_address, IsScalarOf, IsPlace, Fits}
 use Rattle.ob_code_scheme.specs.Layout.{word}
-use Rattle.ob_code_machine.specs.declared.instr.Instr.{Instr}
-use Rattle.ob_code_machine.specs.declared.instr.Instr.TheVariants as Instrs
-use Rattle.ob_code_machine.specs.Words.{Made, Gives, Traps, Sticks, ◌>>=◌, address, made_of_one, made_of_two}
-use Rattle.ob_code_machine.specs.Effect.{popped, pushed, of_one, of_two, loaded, word_at}
+use Rattle.ob_code_words.specs.declared.instr.Instr.{Instr}
+use Rattle.ob_code_words.specs.declared.instr.Instr.TheVariants as Instrs
+use Rattle.ob_code_words.specs.Words.{Made, Gives, Traps, Sticks, ◌>>=◌, address, made_of_one, made_of_two}
+use Rattle.ob_code_words.specs.Effect.{popped, pushed, of_one, of_two, loaded, word_at}
 use Rattle.ob_code_machine.specs.Machine.{Configuration, Unfinished, Trapped, made_then, goes_to, jump_if_decided, goes_on, act, act_at}
 use Rattle.ob_code_scheme.specs.Image.{position_words, store_words, Leads, Stops}
 use Rattle.ob_code_scheme.proofs.Small.{addresses_are_words}

@@ -4,8 +4,8 @@ use Rattle.ob_typing.specs.declared.operator.BinaryOperator.{BinaryOperator}
 use Rattle.ob_typing.specs.declared.operator.BinaryOperator.TheVariants.{Plus, Minus, Times, Div, Mod, And, Or}
 use Rattle.ob_typing.specs.Program.{DataType, Owner, OfModule, Own, Expression, Literal, ValueOf, Negated, Complement, Computed, Compared, Operations, no_operation, operation, Designator, Designated, Selectors, no_selector, field_of, element_of, Actual, ByValue, ByPlace, Statement, Assign, Call, If, While, Repeat, Statements, no_statement, statement, Branches, no_branch, otherwise, branch, Procedure}
 use Rattle.ob_code_scheme.specs.Types.{words, part_type, Space, Holding, Referring, Scope, word_in, space_at, type_at, scope_of, frame_scope}
-use Rattle.ob_code_machine.specs.declared.instr.Instr.{Instr}
-use Rattle.ob_code_machine.specs.declared.instr.Instr.TheVariants as Instrs
+use Rattle.ob_code_words.specs.declared.instr.Instr.{Instr}
+use Rattle.ob_code_words.specs.declared.instr.Instr.TheVariants as Instrs
 use Rattle.ob_code_scheme.specs.Scheme.{own_size, over_size, variable_size, size, operations_size, designator_size, selectors_size, actual_size, actuals_size, statement_size, statements_size, branches_size, procedure_size, relation_instruction, operator_at, own_code, over_code, variable_code, code_at, operations_at, designator_at, selectors_at, actual_at, actuals_at, statement_at, statements_at, branches_at, procedure_at}
 
 -- of lists one behind the other

@@ -10,7 +10,7 @@ use Rattle.ob_meaning.specs.ByPositionStatements.{Outcome, Done, Trap, Run, afte
 use Rattle.ob_code_scheme.specs.Types.{Fits}
 use Rattle.ob_code_scheme.specs.Temporaries.{temporaries}
 use Rattle.ob_code_scheme.specs.WellFormed.{IsOf}
-use Rattle.ob_code_machine.specs.declared.instr.Instr.TheVariants.{Turn, Jump, JumpIfFalse}
+use Rattle.ob_code_words.specs.declared.instr.Instr.TheVariants.{Turn, Jump, JumpIfFalse}
 use Rattle.ob_code_scheme.specs.Scheme.{size, code_at, HasAt}
 use Rattle.ob_code_scheme.specs.Running.{Setting, globals_of, scopes_of, all_of, reserve_of, here, HasRoom}
 use Rattle.ob_code_scheme.specs.Placing.{LeadsGlue, RunsGlue}

@@ -5,7 +5,7 @@ use Rattle.std.proofs.lemmas.Bool.{cases_lt, lt-ltb}
 use Rattle.std.proofs.lemmas.Bool.Decides.{nat_tests}
 use Rattle.std.proofs.lemmas.List.{get_or_append_left, get_or-append_right, set-append_left, set-append_right, take_at, drop_at}
 use Rattle.std.proofs.lemmas.List as Lists
-use Rattle.ob_code_machine.specs.Words.{Made, Gives, Sticks}
+use Rattle.ob_code_words.specs.Words.{Made, Gives, Sticks}
 use Rattle.ob_code_scheme.specs.Memory.{WordAt, PutAt}
 
 above : (m n : ℕ) → n ≤ m → ltb m n ≡ false

@@ -4,12 +4,12 @@ use Rattle.std.proofs.Common.{◌≡◌, ℕ, zero, suc, ◌+◌, ◌-◌, ◌<�
 use Rattle.std.specs.Prelude.{ℤ, pos, negsuc, nat_lt, nat_le, take, slice_get, slice_index_or, Option, Some, None, if◌then◌else◌}
 use Rattle.std.specs.Ordering.{int_eq}
 use Rattle.std.proofs.lemmas.Bool.Decides.{nat_tests}
-use Rattle.ob_code_machine.specs.declared.instr.Instr.{Instr}
-use Rattle.ob_code_machine.specs.declared.instr.Instr.TheVariants.{Local, Get, Put, Jump, JumpIfFalse, AndJump, OrJump, Call, Return, Turn}
+use Rattle.ob_code_words.specs.declared.instr.Instr.{Instr}
+use Rattle.ob_code_words.specs.declared.instr.Instr.TheVariants.{Local, Get, Put, Jump, JumpIfFalse, AndJump, OrJump, Call, Return, Turn}
 use Rattle.ob_code_machine.specs.declared.saved.Saved.{Saved}
-use Rattle.ob_code_machine.specs.Words.{Made, Gives, Traps, Sticks, ◌>>=◌, address}
-use Rattle.ob_code_machine.specs.Effect.{popped, pushed, put_at, stack_effect, effect}
-use Rattle.ob_code_machine.specs.Effect as Memory
+use Rattle.ob_code_words.specs.Words.{Made, Gives, Traps, Sticks, ◌>>=◌, address}
+use Rattle.ob_code_words.specs.Effect.{popped, pushed, put_at, stack_effect, effect}
+use Rattle.ob_code_words.specs.Effect as Memory
 use Rattle.ob_code_machine.specs.Machine.{BodyState, Configuration, Outcome, Unfinished, Returned, Trapped, Stuck, made_then, goes_on, taking_turn, back_to, act, act_at, turn}
 use Rattle.ob_code_machine.specs.Body.{Run, Step, shown, at, step_of}
 

@@ -4,8 +4,8 @@ use Rattle.std.specs.Prelude.{slice_get}
 use Rattle.ob_typing.specs.Program.{Expression, Actual, Call, While, Repeat, Statements, Branches, no_branch, otherwise, branch, Procedure}
 use Rattle.ob_code_scheme.specs.Types.{Scope, frame_scope}
 use Rattle.ob_code_scheme.specs.Layout.{variable_words}
-use Rattle.ob_code_machine.specs.declared.instr.Instr.{Instr}
-use Rattle.ob_code_machine.specs.declared.instr.Instr.TheVariants as Instrs
+use Rattle.ob_code_words.specs.declared.instr.Instr.{Instr}
+use Rattle.ob_code_words.specs.declared.instr.Instr.TheVariants as Instrs
 use Rattle.ob_code_scheme.specs.Scheme.{size, over_size, actuals_size, statements_size, branches_size, code_at, over_code, actuals_at, statement_at, statements_at, branches_at, procedure_at, HasAt}
 use Rattle.ob_code_correct.proofs.StatementsOwed.{Owed}
 

@@ -19,9 +19,9 @@ use Rattle.ob_typing.specs.Arithmetic.{Evaluated, Gives as Given, Traps as Fails
 use Rattle.ob_code_scheme.specs.Types.{IsInteger, IsScalarOf}
 use Rattle.ob_code_scheme.specs.WellFormed.{IsOn}
 use Rattle.ob_code_scheme.specs.Layout.{word}
-use Rattle.ob_code_machine.specs.declared.instr.Instr.{Instr}
-use Rattle.ob_code_machine.specs.declared.instr.Instr.TheVariants as Instrs
-use Rattle.ob_code_machine.specs.Words.{Gives, Traps, is_integer, integer, truth, made_of_one, made_of_two}
+use Rattle.ob_code_words.specs.declared.instr.Instr.{Instr}
+use Rattle.ob_code_words.specs.declared.instr.Instr.TheVariants as Instrs
+use Rattle.ob_code_words.specs.Words.{Gives, Traps, is_integer, integer, truth, made_of_one, made_of_two}
 use Rattle.ob_code_scheme.specs.Scheme.{relation_instruction}
 use Rattle.ob_code_correct.proofs.Instructions.{IsOfTwo, Agrees}
 

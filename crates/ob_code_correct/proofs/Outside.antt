@@ -12,7 +12,7 @@ use Rattle.ob_code_scheme.specs.Types.{Scope, extent, total, variables_scope, pa
 use Rattle.ob_code_scheme.specs.Temporaries.{stack_words}
 use Rattle.ob_code_scheme.specs.WellFormed.{IsFineProcedure, IsWellFormed}
 use Rattle.ob_code_scheme.specs.Layout.{encoded, variable_words}
-use Rattle.ob_code_machine.specs.declared.instr.Instr.{Instr}
+use Rattle.ob_code_words.specs.declared.instr.Instr.{Instr}
 use Rattle.ob_code_machine.specs.Body.{result_count, handed}
 use Rattle.ob_code_machine.specs.Machine.{Configuration, Unfinished, Returned, turn, carried, exec}
 use Rattle.ob_code_machine.specs.Machine as Machine

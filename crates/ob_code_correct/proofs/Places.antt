@@ -15,7 +15,7 @@ use Rattle.ob_meaning.specs.OverStore.{within}
 use Rattle.ob_code_scheme.specs.Types.{words, part_type, part_offset, Space, Holding, Referring, word_in, space_at, scope_of, address, IsScalarOf, HasPart, IsPlace, Fits}
 use Rattle.ob_code_scheme.specs.WellFormed.{HasPosition, HasFieldAt, HasLength}
 use Rattle.ob_code_scheme.specs.Layout.{word}
-use Rattle.ob_code_machine.specs.declared.instr.Instr.TheVariants as Instrs
+use Rattle.ob_code_words.specs.declared.instr.Instr.TheVariants as Instrs
 use Rattle.ob_code_scheme.specs.Scheme.{own_size, variable_size, own_code, variable_code, HasAt}
 use Rattle.ob_code_scheme.proofs.Small.{addresses_are_words}
 use Rattle.ob_code_scheme.specs.Memory.{own_word, MemoryHolds}

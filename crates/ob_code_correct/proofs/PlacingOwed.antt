@@ -2,7 +2,7 @@
 use Rattle.std.proofs.Common.{ℕ, ◌+◌, List, ◌∷◌, refl, arith}
 use Rattle.ob_typing.specs.Arithmetic.{Gives, Traps}
 use Rattle.ob_meaning.specs.ByPositionStatements.{then_run}
-use Rattle.ob_code_machine.specs.declared.instr.Instr.{Instr}
+use Rattle.ob_code_words.specs.declared.instr.Instr.{Instr}
 use Rattle.ob_code_machine.specs.declared.saved.Saved.{Saved}
 use Rattle.ob_code_scheme.specs.Image.{Scopes}
 use Rattle.ob_code_scheme.specs.Running.{scopes_of, reserve_of, here}

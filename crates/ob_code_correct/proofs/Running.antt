@@ -3,7 +3,7 @@ use Rattle.std.proofs.Common.{◌≡◌, ℕ, suc, ◌+◌, ◌*◌, ◌≤◌, 
 use Rattle.ob_meaning.specs.ByPositionStore.{Store}
 use Rattle.ob_meaning.specs.ByPositionStatements.{Outcome, Run, Done, Trap, then_run}
 use Rattle.ob_code_scheme.specs.Types.{Fits}
-use Rattle.ob_code_machine.specs.declared.instr.Instr.{Instr}
+use Rattle.ob_code_words.specs.declared.instr.Instr.{Instr}
 use Rattle.ob_code_machine.specs.Machine as Machine
 use Rattle.ob_code_machine.specs.declared.saved.Saved.{Saved}
 use Rattle.ob_code_machine.specs.Machine.{Configuration, Unfinished, Trapped, turn, carried, exec}

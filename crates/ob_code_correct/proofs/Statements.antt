@@ -9,7 +9,7 @@ use Rattle.ob_meaning.specs.ByPositionStatements.{Calls, meaning, meaning_of_all
 use Rattle.ob_code_scheme.specs.Types.{parameters_scope, FitsHanded, Fits}
 use Rattle.ob_code_scheme.specs.Temporaries.{statement_temporaries, statements_temporaries, branches_temporaries}
 use Rattle.ob_code_scheme.specs.WellFormed.{IsOf, AreActuals, AreActualsOf, IsFine, AreFine, AreFineBranches}
-use Rattle.ob_code_machine.specs.declared.instr.Instr.TheVariants as Instrs
+use Rattle.ob_code_words.specs.declared.instr.Instr.TheVariants as Instrs
 use Rattle.ob_code_scheme.specs.Scheme.{size, over_size, actuals_size, statement_size, statements_size, branches_size, entry_of, over_code, statement_at, statements_at, branches_at, HasAt}
 use Rattle.ob_code_scheme.specs.Image.{position_words, Leads}
 use Rattle.ob_code_scheme.specs.Running.{Setting, globals_of, scopes_of, all_of, reserve_of, here, HasRoom}

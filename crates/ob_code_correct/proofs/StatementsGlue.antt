@@ -13,7 +13,7 @@ use Rattle.ob_code_scheme.specs.Types.{IsScalarOf, Fits}
 use Rattle.ob_code_scheme.specs.Temporaries.{temporaries}
 use Rattle.ob_code_scheme.specs.WellFormed.{IsOf}
 use Rattle.ob_code_scheme.specs.Layout.{word}
-use Rattle.ob_code_machine.specs.declared.instr.Instr.TheVariants.{JumpIfFalse}
+use Rattle.ob_code_words.specs.declared.instr.Instr.TheVariants.{JumpIfFalse}
 use Rattle.ob_code_machine.specs.Machine.{Configuration}
 use Rattle.ob_code_scheme.specs.Scheme.{size, code_at, HasAt}
 use Rattle.ob_code_scheme.specs.Image.{Leads, Runs}

@@ -1,7 +1,7 @@
 -- Steps of the engine are steps of a body.
 use Rattle.std.proofs.Common.{◌≡◌, ◌≢◌, ℕ, zero, suc, ◌<◌, ◌≤◌, true, ℤ, List, length, refl, ap}
 use Rattle.std.specs.Prelude.{slice_get}
-use Rattle.ob_code_machine.specs.declared.instr.Instr.{Instr}
+use Rattle.ob_code_words.specs.declared.instr.Instr.{Instr}
 use Rattle.ob_code_machine.specs.declared.turn.BodyTurn.{BodyTurn}
 use Rattle.ob_code_machine.specs.declared.turn.BodyTurn.TheVariants as Answer
 use Rattle.ob_code_machine.specs.Body.{Run, Step, step_of, after, steps as body_steps}

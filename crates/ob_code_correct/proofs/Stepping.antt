@@ -9,10 +9,10 @@ use Rattle.ob_meaning.specs.ByPositionValue.{Single}
 use Rattle.ob_meaning.specs.ByPositionStore.{Place, Store, activation_at, stored}
 use Rattle.ob_code_scheme.specs.Types.{address, IsScalarOf, IsPlace, Fits}
 use Rattle.ob_code_scheme.specs.Layout.{word}
-use Rattle.ob_code_machine.specs.declared.instr.Instr.TheVariants as Instrs
-use Rattle.ob_code_machine.specs.Words.{Made, Gives, ◌>>=◌}
-use Rattle.ob_code_machine.specs.Effect.{popped, put_at}
-use Rattle.ob_code_machine.specs.Effect as Effects
+use Rattle.ob_code_words.specs.declared.instr.Instr.TheVariants as Instrs
+use Rattle.ob_code_words.specs.Words.{Made, Gives, ◌>>=◌}
+use Rattle.ob_code_words.specs.Effect.{popped, put_at}
+use Rattle.ob_code_words.specs.Effect as Effects
 use Rattle.ob_code_machine.specs.Machine.{Unfinished, made_then, goes_to, jump_if_false, goes_on}
 use Rattle.ob_code_scheme.specs.Image.{position_words, store_words, Leads, Stops}
 use Rattle.ob_code_scheme.specs.Memory.{MemoryHolds}

@@ -5,10 +5,10 @@ use Rattle.std.specs.Ordering.{int_eq}
 use Rattle.std.proofs.lemmas.Bool.Decides.{nat_tests}
 use Rattle.std.proofs.lemmas.List.{get_or_at, take_at}
 use Rattle.ob_meaning.specs.ByPositionStore.{Store, activation_at}
-use Rattle.ob_code_machine.specs.declared.instr.Instr.{Instr}
-use Rattle.ob_code_machine.specs.declared.instr.Instr.TheVariants.{Jump, JumpIfFalse, Turn}
-use Rattle.ob_code_machine.specs.Words.{Made, Gives, Sticks}
-use Rattle.ob_code_machine.specs.Effect.{popped}
+use Rattle.ob_code_words.specs.declared.instr.Instr.{Instr}
+use Rattle.ob_code_words.specs.declared.instr.Instr.TheVariants.{Jump, JumpIfFalse, Turn}
+use Rattle.ob_code_words.specs.Words.{Made, Gives, Sticks}
+use Rattle.ob_code_words.specs.Effect.{popped}
 use Rattle.ob_code_machine.specs.declared.saved.Saved.{Saved}
 use Rattle.ob_code_machine.specs.Machine.{Configuration, Unfinished, Trapped, made_then, goes_to, act_at, turn}
 use Rattle.ob_code_scheme.specs.Types.{total}

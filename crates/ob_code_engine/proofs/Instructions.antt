@@ -3,9 +3,9 @@ use Rattle.std.proofs.Common.{arith, ◌≡◌, refl, ap, ℕ, ℤ, Bool, true, 
 use Rattle.std.specs.Bool.{Decides}
 use Rattle.std.specs.Ordering.{int_eq}
 use Rattle.std.proofs.lemmas.Bool.Decides.{nat_tests, Decides-int_eq}
-use Rattle.ob_code_machine.specs.contracts.instr.InstrPartialEq.TheImpl
-use Rattle.ob_code_machine.specs.contracts.instr.Instr.{enum}
-use Rattle.ob_code_machine.specs.declared.instr.Instr.{Instr}
+use Rattle.ob_code_words.specs.contracts.instr.InstrPartialEq.TheImpl
+use Rattle.ob_code_words.specs.contracts.instr.Instr.{enum}
+use Rattle.ob_code_words.specs.declared.instr.Instr.{Instr}
 use Rattle.ob_code_engine.proofs.Choices.{enum_decided}
 
 abbrev Nothing : Type 0

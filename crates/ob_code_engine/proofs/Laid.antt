@@ -1,37 +1,38 @@
 -- A call laid word by word.
-use Rattle.std.proofs.Common.{◌≡◌, ℕ, zero, suc, ◌+◌, ◌<◌, List, [], ◌∷◌, ◌++◌, length, map, take, set, replicate, get_or, refl, sym, ap, ◌∙◌, arith}
+use Rattle.std.proofs.Common.{◌≡◌, ℕ, zero, suc, ◌+◌, ◌-◌, ◌<◌, ◌≤◌, List, [], ◌∷◌, ◌++◌, length, map, take, set, get_or, refl, sym, ap, ◌∙◌, arith}
 use Rattle.std.specs.Prelude.{ℤ, pos}
-use Rattle.std.proofs.lemmas.List.{take_more, map-append}
+use Rattle.std.proofs.lemmas.List.{take_more, take_more_set}
+use Rattle.std.proofs.Math.ListN.{get_or-map}
 use Rattle.ob_interface.specs.declared.scalar.Scalar.{Scalar}
+use Rattle.ob_interface.specs.declared.scalar.Scalar.TheVariants.{Int}
 use Rattle.ob_code_scheme.specs.Layout.{word}
-use Rattle.ob_code_correct.specs.CodeMeaning.{padded}
+use Rattle.ob_code_correct.specs.CodeMeaning.{padded, other_words}
 
-pub padded_none : (n : ℕ) → padded n [] ≡ replicate n (pos 0)
-padded_none zero = refl
-padded_none (suc n) = ap (λ (ws : List ℤ). pos 0 ∷ ws) (padded_none n)
+pub length_padded : (n : ℕ) (ws : List ℤ) → length (padded n ws) ≡ n
+length_padded zero ws = refl
+length_padded (suc n) ws = ap suc (length_padded n (other_words ws))
 
--- the word behind those that stand
-pub set_padded : (n : ℕ) (xs : List ℤ) (w : ℤ) → length xs < n → set (padded n xs) (length xs) w ≡ padded n (xs ++ w ∷ [])
-set_padded zero xs w h = absurd (omega (arith, h))
-set_padded (suc n) [] w h = ap (λ (ws : List ℤ). w ∷ ws) refl
-set_padded (suc n) (x ∷ xs) w h = ap (λ (ws : List ℤ). x ∷ ws) (set_padded n xs w (omega (arith, h)))
+-- there is 0 behind the words
+padded_at : (n : ℕ) (ws : List ℤ) (i : ℕ) → i < n → get_or (padded n ws) i (pos 0) ≡ get_or ws i (pos 0)
+padded_at zero ws i h = absurd (omega (arith, h))
+padded_at (suc n) [] zero h = refl
+padded_at (suc n) (w ∷ ws) zero h = refl
+padded_at (suc n) [] (suc i) h = padded_at n [] i (omega (arith, h))
+padded_at (suc n) (w ∷ ws) (suc i) h = padded_at n ws i (omega (arith, h))
 
--- the next one
-pub set_next : (n : ℕ) (x : ℤ) (front : List ℤ) (place : ℕ) (words : List ℤ) (w v : ℤ) → words ≡ padded n (x ∷ front) → place ≡ length front + 1 → length front + 1 < n → w ≡ v →
-    set words place w ≡ padded n (x ∷ (front ++ v ∷ []))
-set_next n x front place words w v laid at room same =
-    ap (λ (ws : List ℤ). set ws place w) laid
-    ∙ ap (λ (k : ℕ). set (padded n (x ∷ front)) k w) at'
-    ∙ set_padded n (x ∷ front) w (omega (arith, room))
-    ∙ ap (λ (y : ℤ). padded n (x ∷ (front ++ y ∷ []))) same
-  where
-    at' : place ≡ length (x ∷ front)
-    at' = omega (arith, at)
+-- one more word
+pub laid_next : (n : ℕ) (ws words : List ℤ) (i : ℕ) (w : ℤ) → length words ≡ n → i < n → w ≡ get_or ws i (pos 0) → take i words ≡ take i (padded n ws) →
+    take (i + 1) (set words i w) ≡ take (i + 1) (padded n ws)
+laid_next n ws words i w long below is so_far =
+    take_more_set words i w (omega (arith, long, below))
+    ∙ ap (λ (l : List ℤ). l ++ w ∷ []) so_far
+    ∙ ap (λ (x : ℤ). take i (padded n ws) ++ x ∷ []) (is ∙ sym (padded_at n ws i below))
+    ∙ sym (take_more (padded n ws) i (pos 0) (omega (arith, length_padded n ws, below)))
 
-pub first_laid : (n : ℕ) (words : List ℤ) (w v : ℤ) → words ≡ replicate n (pos 0) → 0 < n → w ≡ v → set words 0 w ≡ padded n (v ∷ [])
-first_laid n words w v zeros some same =
-    ap (λ (ws : List ℤ). set ws 0 w) (zeros ∙ sym (padded_none n)) ∙ set_padded n [] w some ∙ ap (λ (y : ℤ). padded n (y ∷ [])) same
+get_behind : (x : ℤ) (xs : List ℤ) (i : ℕ) → 1 ≤ i → get_or xs (i - 1) (pos 0) ≡ get_or (x ∷ xs) i (pos 0)
+get_behind x xs zero h = absurd (omega (arith, h))
+get_behind x xs (suc i) h = let e : suc i - 1 ≡ i = omega arith in ap (λ (k : ℕ). get_or xs k (pos 0)) e
 
--- the words of one more argument
-pub words_next : (xs : List Scalar) (i : ℕ) (d : Scalar) → i < length xs → map word (take (i + 1) xs) ≡ map word (take i xs) ++ word (get_or xs i d) ∷ []
-words_next xs i d h = ap (map word) (take_more xs i d h) ∙ map-append word (take i xs) (get_or xs i d ∷ [])
+-- the word of an argument stands behind the first word
+pub word_behind : (x : ℤ) (arguments : List Scalar) (i : ℕ) → 1 ≤ i → word (get_or arguments (i - 1) (Int (pos 0))) ≡ get_or (x ∷ map word arguments) i (pos 0)
+word_behind x arguments i h = sym (get_or-map word arguments (i - 1) (Int (pos 0))) ∙ get_behind x (map word arguments) i h

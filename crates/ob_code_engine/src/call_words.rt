@@ -1,8 +1,9 @@
 //! Calls and replies as words.
 
-ghost use Rattle.std.specs.Prelude.{◌≡◌, ◌<◌, ◌≤◌, ◌+◌, ◌^◌, ◌++◌, length, replicate, pos};
+ghost use Rattle.std.specs.Prelude.{◌≡◌, ◌<◌, ◌≤◌, ◌+◌, ◌^◌, ◌++◌, get_or, length, pos};
 ghost use Rattle.ob_interface.specs.Call.{Answers};
 ghost use Rattle.ob_interface.specs.View.{reply_of};
+ghost use Rattle.ob_interface.specs.declared.scalar.Scalar.TheVariants.{Int};
 ghost use Rattle.ob_code_scheme.specs.Layout.{word};
 ghost use Rattle.ob_code_correct.specs.CodeMeaning as Words;
 
@@ -23,25 +24,26 @@ fn word_of_scalar(scalar: Scalar) -> i64
     }
 }
 
-/// Zeros in place of the words.
-fn clear(words: &mut [i64])
-    ensures { words.new ≡ replicate (length words.old) (pos 0) }
+/// The argument at a place; 0 where there is none.
+fn argument_at(arguments: &[Scalar], place: usize) -> Scalar
+    ensures { result ≡ get_or arguments.now place (Int (pos 0)) }
 {
-    words.fill(0);
+    match arguments.get(place) {
+        Some(argument) => *argument,
+        None => Scalar::Int(0),
+    }
 }
 
-/// Writes the call of an export as words: its number, its arguments, and zeros.
+/// Writes the call of an export as words: its number, its arguments, and zeros. There are few, so none is cleared before it is written.
+#[inline(always)]
 pub fn lay(proc: usize, arguments: &[Scalar], words: &mut [i64])
     requires number { proc < 2 ^ 63 }
-    requires room { length arguments.now < length words.old }
+    requires room { 0 < length words.old }
     ensures { words.new ≡ Words.laid (length words.old) (record { export = proc; arguments = arguments.now }) }
 {
-    clear(words);
     words[0] = proc as i64;
-    let mut place = 1;
-    for argument in arguments {
-        words[place] = word_of_scalar(*argument);
-        place += 1;
+    for place in 1..words.len() {
+        words[place] = word_of_scalar(argument_at(arguments, place - 1));
     }
 }
 

@@ -1,10 +1,11 @@
 //! The engine over compiled code.
 
-ghost use Rattle.std.specs.Prelude.{◌≡◌, ◌<◌, ◌≤◌, ◌↔◌, IsTrue, length};
+ghost use Rattle.std.specs.Prelude.{◌≡◌, ◌<◌, ◌≤◌, ◌↔◌, ℕ, IsTrue, length};
 ghost use Rattle.ob_code_engine.specs.CodeEngine.{engine_parts};
 ghost use Rattle.ob_code_correct.specs.CodeMeaning.{most, result_count, value_count};
 ghost use Rattle.ob_code_correct.specs.Parts.{HasProgram};
 ghost use Rattle.ob_meaning.specs.ByNameObject.{most_turns};
+ghost use Rattle.wf_table.specs.declared.engine_turn.EngineTurn.TheVariants as Turn;
 
 use crate::call_words::{lay, reply_in, split, trap_in};
 use crate::entrance::{Entrance, are_same, copied, entrances, most_results, most_values};
@@ -173,15 +174,17 @@ impl CodeEngine {
         }
     }
 
-    /// One step of a body on a block, or two that are one move: what the last of them answers, and how many they were.
-    #[inline(always)]
-    pub fn leap(&self, run: &mut Body, block: &mut [i64]) -> (EngineTurn, u64)
-        ensures some { 0 < result.1 }
-        ensures few { result.1 ≤ 2 }
-        ensures steps { record { turn = result.0; run = run.new; block = block.new } ≡ steps (Words.code_meaning self.now.parts) result.1 run.old block.old }
+    /// Steps of a body on a block, at most so many, up to the first behind which it doesn't go on: how many they are, and what the
+    /// last one answers.
+    pub fn run_on(&self, run: &mut Body, block: &mut [i64], most: u64) -> (u64, EngineTurn)
+        ensures few { result.0 ≤ most }
+        ensures some { 0 < most → 0 < result.0 }
+        ensures on { (j : ℕ) → j < result.0 → (steps (Words.code_meaning self.now.parts) j run.old block.old).turn ≡ Turn.On }
+        ensures taken { record { turn = result.1; run = run.new; block = block.new } ≡ steps (Words.code_meaning self.now.parts) result.0 run.old block.old }
+        ensures all { record { turn = result.1; run = run.new; block = block.new } ≡ steps (Words.code_meaning self.now.parts) most run.old block.old }
     {
-        let (turn, taken) = run.leap(&self.code, block);
-        (turn_of(turn), taken)
+        let (taken, turn) = run.run_on(&self.code, block, most);
+        (taken, turn_of(turn))
     }
 
     /// The reply of a call of an export that has ended, from the words of its results; nothing where there is no such export.
@@ -262,6 +265,10 @@ impl Engine for CodeEngine {
     #[inline(always)]
     fn step(&self, run: &mut Body, block: &mut [i64]) -> EngineTurn {
         turn_of(run.step(&self.code, block))
+    }
+
+    fn steps(&self, run: &mut Body, block: &mut [i64], most: u64) -> (u64, EngineTurn) {
+        self.run_on(run, block, most)
     }
 
     fn result(&self, run: &Body, i: usize) -> i64 {

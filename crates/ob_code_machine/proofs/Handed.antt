@@ -3,7 +3,7 @@ use Rattle.std.proofs.Common.{◌≡◌, ℕ, suc, ◌+◌, ◌<◌, ◌≤◌, 
 use Rattle.std.proofs.lemmas.List.{take_more, length-take-le}
 use Rattle.ob_code_machine.specs.declared.argument.Argument.{Argument}
 use Rattle.ob_code_machine.specs.declared.argument.Argument.TheVariants.{Value, Var}
-use Rattle.ob_code_machine.specs.StackWords.{StackWords, with_words}
+use Rattle.ob_code_words.specs.StackWords.{StackWords, with_words}
 use Rattle.ob_code_machine.specs.Body.{result_count, handed}
 
 pub result_count-push : (xs : List Argument) (a : Argument) → result_count (xs ++ a ∷ []) ≡ result_count xs + result_count (a ∷ [])

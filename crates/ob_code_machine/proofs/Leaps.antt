@@ -1,5 +1,5 @@
 -- Two instructions that are made as one move.
-use Rattle.std.proofs.Common.{◌≡◌, ℕ, ◌+◌, ◌-◌, ◌<◌, ltb, leb, Bool, true, false, cond, List, [], ◌∷◌, ◌++◌, length, take, get_or, pos, ℤ, Some, None, refl, ap, sym, ◌∙◌, subst, arith}
+use Rattle.std.proofs.Common.{◌≡◌, ℕ, suc, ◌+◌, ◌-◌, ◌<◌, ◌≤◌, ltb, leb, Bool, true, false, cond, List, [], ◌∷◌, ◌++◌, length, take, get_or, pos, ℤ, Some, None, refl, ap, sym, ◌∙◌, subst, arith}
 use Rattle.std.specs.Prelude.{MatchBool, slice_get, if◌then◌else◌}
 use Rattle.std.specs.Ordering.{int_eq}
 use Rattle.std.proofs.lemmas.Grind.{common_steps}
@@ -7,17 +7,19 @@ use Rattle.std.proofs.lemmas.Bool.Decides.{nat_tests}
 use Rattle.std.proofs.lemmas.List.{get_or_append_left, length-append}
 use Rattle.std.proofs.lemmas.Option.{gets}
 use Rattle.std.proofs.Math.Seq.{get_or-append_seam}
-use Rattle.ob_code_machine.specs.declared.instr.Instr.{Instr}
-use Rattle.ob_code_machine.specs.declared.instr.Instr.TheVariants.{Literal, Global, Local, Field, Index, Get, Put, Add, Subtract, Multiply, Divide, Modulo, Negate, Not, Equal, NotEqual, Less, LessOrEqual, Greater, GreaterOrEqual, Jump, JumpIfFalse, AndJump, OrJump, Call, Frame, Return, Turn}
-use Rattle.ob_code_machine.specs.Words.{Made, Gives, Traps, Sticks, ◌>>=◌, made_of_one, made_of_two}
-use Rattle.ob_code_machine.specs.Effect.{effect, popped, pushed, of_two, loaded, word_at}
-use Rattle.ob_code_machine.specs.Machine.{Configuration, Unfinished, Stuck, act_at, turn, made_then, goes_on, goes_to, act, carried, computed}
+use Rattle.ob_code_words.specs.declared.instr.Instr.{Instr}
+use Rattle.ob_code_words.specs.declared.instr.Instr.TheVariants.{Literal, Global, Local, Field, Index, Get, Put, Add, Subtract, Multiply, Divide, Modulo, Negate, Not, Equal, NotEqual, Less, LessOrEqual, Greater, GreaterOrEqual, Jump, JumpIfFalse, AndJump, OrJump, Call, Frame, Return, Turn}
+use Rattle.ob_code_words.specs.Words.{Made, Gives, Traps, Sticks, ◌>>=◌, made_of_one, made_of_two}
+use Rattle.ob_code_words.specs.Effect.{effect, popped, pushed, put_at, of_two, loaded, stored, word_at}
+use Rattle.ob_code_machine.specs.Machine.{Configuration, Unfinished, Stuck, act_at, turn, taking_turn, made_then, goes_on, goes_to, act, carried, computed}
 use Rattle.ob_code_machine.specs.Body.{Run, Step, after, at, run_view, shown, step_of, steps}
-use Rattle.ob_code_machine.specs.Leaps.{AreMade, IsComputed, Lead, MakesBoth}
-use Rattle.ob_code_machine.specs.StackWords.{StackWords, with_words}
+use Rattle.ob_code_machine.specs.Leaps.{AreMade, Assigns, Goes, IsComputed, IsLeap, IsMadeWith, IsOperator, Lead, MakesBoth, Puts}
+use Rattle.ob_code_words.specs.StackWords.{StackWords, with_words}
 use Rattle.ob_code_machine.specs.declared.saved.Saved.{Saved}
+use Rattle.ob_code_machine.specs.declared.turn.BodyTurn.{BodyTurn}
 use Rattle.ob_code_machine.specs.declared.turn.BodyTurn.TheVariants as Answer
-use Rattle.ob_code_machine.proofs.Tops.{TwoFound, popped_found, of_one_made, of_two_made}
+use Rattle.ob_code_words.proofs.Tops.{TwoFound, popped_found, of_one_made, of_two_made, stored_found}
+use Rattle.ob_code_machine.proofs.Goes.{behind_some, leaps_more, leaps_one}
 
 -- behind two instructions, with this stack
 abbrev pub behind : Configuration → List ℤ → Configuration
@@ -206,3 +208,104 @@ pub made_if : (r : Bool) (code : List Instr) (old new : Run) (block : List ℤ) 
     → slice_get code old.body.pc ≡ Some first → slice_get code (old.body.pc + 1) ≡ Some second → MakesBoth r first second old new block → MatchBool r (AreMade code old new block) (new ≡ old)
 made_if true code old new block first second computes works here there h = both_made code old new block first second computes works here there h
 made_if false code old new block first second computes works here there h = h
+
+-- ---- a turn, and what is put
+
+-- TURN takes one of the turns
+pub turn_taken : (code : List Instr) (old : Run) (pc fp : ℕ) (st : StackWords) (saved : List Saved) (turns : ℕ) (is_over : Bool) (block : List ℤ)
+    → run_view pc fp st saved turns is_over ≡ old → old.is_over ≡ false → slice_get code old.body.pc ≡ Some Turn → turns ≡ suc (turns - 1)
+    → Goes code 1 old block (run_view (pc + 1) fp st saved (turns - 1) is_over) block
+turn_taken code old pc fp st saved turns is_over block is_run works here some =
+    let new = run_view (pc + 1) fp st saved (turns - 1) is_over in
+    subst (λ (r : Run). Goes code 1 r block new block) is_run
+    (second_step code (run_view pc fp st saved turns is_over) new block block Turn (ap (λ (r : Run). r.is_over) is_run ∙ works) (ap (λ (r : Run). slice_get code r.body.pc) is_run ∙ here)
+    (ap (λ n. taking_turn n (λ left. Unfinished (record { block = block; body = record { pc = pc + 1; stack = st.words; fp = fp; saved = saved; turns = left } }))) some))
+
+-- where a word was found on top there is one
+pub some_top : (s : List ℤ) (x : ℤ) → Some x ≡ slice_get s (length s - 1) → 0 < length s
+some_top s x h = grind (arith, gets)
+
+-- the word on top of some of the lowest, and those below it
+top_of_lowest : (s : List ℤ) (n : ℕ) → 1 ≤ n → n ≤ length s → Some (get_or s (n - 1) (pos 0)) ≡ slice_get (take n s) (length (take n s) - 1)
+top_of_lowest s n some le = grind (arith, gets, common_steps)
+
+below_top_of_lowest : (s : List ℤ) (n : ℕ) → 1 ≤ n → n ≤ length s → take (length (take n s) - 1) (take n s) ≡ take (n - 1) s
+below_top_of_lowest s n some le = grind (arith, common_steps)
+
+-- PUT, where a word was just put on top
+put_next : (code : List Instr) (mid new : Run) (block block' l : List ℤ) (a z : ℤ) → mid.is_over ≡ false → slice_get code mid.body.pc ≡ Some Put
+    → mid.body.stack ≡ l ++ z ∷ [] → Some a ≡ slice_get l (length l - 1) → put_at block (take (length l - 1) l) a z ≡ Gives (block', new.body.stack)
+    → new ≡ record mid { body = record mid.body { pc = mid.body.pc + 1; stack = new.body.stack } } → Goes code 1 mid block new block'
+put_next code mid new block block' l a z works there stack top put is =
+    let c = at mid block in
+    let made : act mid.reserve Put c ≡ Unfinished (at new block') =
+    ap (λ s. made_then (stored block s) (goes_on c)) stack
+    ∙ ap (λ m. made_then m (goes_on c)) (stored_found block (l ++ z ∷ []) a z (two_pushed l a z top) ∙ ap (λ s. put_at block s a z) (below_two l a z top) ∙ put)
+    ∙ ap (λ (r : Run). Unfinished (at r block')) (sym is) in
+    second_step code mid new block block' Put works there made
+    ∙ ap (λ (r : Run). record { turn = Answer.On; run = record mid { body = r.body }; block = block' }) is
+    ∙ ap (λ (r : Run). record { turn = Answer.On; run = r; block = block' }) (sym is)
+
+-- a word that stands on top of some of the lowest is put at the address that they end with
+puts_next : (code : List Instr) (old mid new : Run) (block block' : List ℤ) (height behind n : ℕ) (word : ℤ) → mid.is_over ≡ false → slice_get code mid.body.pc ≡ Some Put
+    → mid.body.stack ≡ take n old.body.stack ++ word ∷ [] → n ≡ height + 1 → mid ≡ record old { body = record old.body { pc = mid.body.pc; stack = mid.body.stack } } → mid.body.pc + 1 ≡ old.body.pc + behind
+    → Puts height behind word old block new block' → Goes code 1 mid block new block'
+puts_next code old mid new block block' height behind n word works there stack is_n is_mid next p =
+    let s = old.body.stack in
+    let within = p.within in
+    let low : n - 1 ≡ height = omega (arith, is_n) in
+    let top = top_of_lowest s n (omega (arith, is_n)) (omega (arith, is_n, within)) in
+    let rest = below_top_of_lowest s n (omega (arith, is_n)) (omega (arith, is_n, within)) in
+    put_next code mid new block block' (take n s) (get_or s (n - 1) (pos 0)) word works there stack top
+    (ap (λ l. put_at block l (get_or s (n - 1) (pos 0)) word) (rest ∙ ap (λ k. take k s) low) ∙ ap (λ k. put_at block (take height s) (get_or s k (pos 0)) word) low ∙ p.put)
+    (p.body
+    ∙ ap (λ k. record old { body = record old.body { pc = k; stack = new.body.stack } }) (sym next)
+    ∙ ap (λ (r : Run). record r { body = record r.body { pc = mid.body.pc + 1; stack = new.body.stack } }) (sym is_mid))
+
+-- an operator and PUT
+pub assigned : (code : List Instr) (operator : Instr) (old new : Run) (block block' : List ℤ) → IsOperator operator → old.is_over ≡ false → slice_get code old.body.pc ≡ Some operator
+    → slice_get code (old.body.pc + 1) ≡ Some Put → Assigns operator old block new block' → Goes code 2 old block new block'
+assigned code operator old new block block' is_operator works here there a =
+    let s = old.body.stack in
+    let c = at old block in
+    let mid : Run = record old { body = record old.body { pc = old.body.pc + 1; stack = take (length s - 2) s ++ a.word ∷ [] } } in
+    let made : act old.reserve operator c ≡ Unfinished (at mid block) =
+    is_operator old.reserve c
+    ∙ ap (λ m. made_then (m >>= (λ after. Gives (block, after))) (goes_on c)) (of_two_made (made_of_two operator) s a.left a.right (Gives a.word) a.on_top a.made) in
+    let high = a.high in
+    let n : length s - 2 ≡ length s - 3 + 1 = omega (arith, high) in
+    behind_some code 1 1 2 old block mid block (second_step code old mid block block operator works here made) refl
+    ∙ puts_next code old mid new block block' (length s - 3) 2 (length s - 2) a.word works there refl n refl (two_on old.body.pc) a.puts
+
+module _ (code : List Instr) (old : Run) (block : List ℤ) (value word : ℤ) (works : old.is_over ≡ false) (here : slice_get code old.body.pc ≡ Some (Literal value)) (m : IsMadeWith code old value word) where
+  -- what the word is on top of
+  abbrev made_on : Run
+  made_on = record old { body = record old.body { pc = old.body.pc + 2; stack = take (length old.body.stack - 1) old.body.stack ++ word ∷ [] } }
+
+  -- LIT and an operator
+  pub literal_taken : Goes code 2 old block made_on block
+  literal_taken = both_made code old made_on block (Literal value) m.second (λ reserve c. refl) works here m.there (operand_taken old.reserve (at old block) m.second m.under value word m.room m.top m.made, refl)
+
+  -- and PUT
+  pub literal_put : (new : Run) (block' : List ℤ) → slice_get code (old.body.pc + 2) ≡ Some Put → 2 ≤ length old.body.stack → Puts (length old.body.stack - 2) 3 word old block new block' → Goes code 3 old block new block'
+  literal_put new block' there high p =
+      let n : length old.body.stack - 1 ≡ length old.body.stack - 2 + 1 = omega (arith, high) in
+      let next : old.body.pc + 2 + 1 ≡ old.body.pc + 3 = omega arith in
+      behind_some code 2 1 3 old block made_on block literal_taken refl
+      ∙ puts_next code old made_on new block block' (length old.body.stack - 2) 3 (length old.body.stack - 1) word works there refl n refl next p
+
+-- where both instructions were made, that is a leap
+pub leap_if : (r : Bool) (code : List Instr) (old new : Run) (block : List ℤ) (first second : Instr) → IsComputed first → old.is_over ≡ false
+    → slice_get code old.body.pc ≡ Some first → slice_get code (old.body.pc + 1) ≡ Some second → MakesBoth r first second old new block → MatchBool r (IsLeap code Answer.On 2 old block new block) (new ≡ old)
+leap_if true code old new block first second computes works here there h =
+    leaps_more code 2 old block new block (omega arith) (omega arith) (both_made code old new block first second computes works here there h)
+leap_if false code old new block first second computes works here there h = h
+
+-- one by itself
+pub by_itself : (code : List Instr) (old new : Run) (block : List ℤ) (t : BodyTurn) (i : Instr) → old.is_over ≡ false → slice_get code old.body.pc ≡ Some i
+    → record { turn = t; run = new; block = block } ≡ shown old block (act old.reserve i (at old block)) → IsLeap code t 1 old block new block
+by_itself code old new block t i works here is =
+    let s : step_of code old block ≡ shown old block (act old.reserve i (at old block)) =
+    ap (λ b. shown old block (if b then Stuck else turn code old.reserve (at old block))) works
+    ∙ ap (λ i. shown old block (act_at old.reserve i (at old block))) here in
+    leaps_one code t old block new block (is ∙ sym s)

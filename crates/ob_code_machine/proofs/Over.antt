@@ -1,6 +1,6 @@
 -- What is over, and what is stuck.
 use Rattle.std.proofs.Common.{◌≡◌, ℕ, zero, suc, true, ℤ, List, refl, arith}
-use Rattle.ob_code_machine.specs.declared.instr.Instr.{Instr}
+use Rattle.ob_code_words.specs.declared.instr.Instr.{Instr}
 use Rattle.ob_code_machine.specs.declared.turn.BodyTurn.TheVariants as Answer
 use Rattle.ob_code_machine.specs.Machine.{Configuration, Outcome, Unfinished, Returned, Trapped, Stuck, turn, carried, exec}
 use Rattle.ob_code_machine.specs.Body.{Run, shown, at, step_of}

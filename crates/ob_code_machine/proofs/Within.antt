@@ -4,11 +4,11 @@ use Rattle.std.specs.Prelude.{nat_lt, nat_le, slice_set, slice_get, slice_index_
 use Rattle.std.specs.Ordering.{int_eq}
 use Rattle.std.proofs.lemmas.List.{length-take-le, length-replicate}
 use Rattle.std.proofs.lemmas.Bool.Decides.{nat_tests}
-use Rattle.ob_code_machine.specs.declared.instr.Instr.{Instr}
-use Rattle.ob_code_machine.specs.declared.instr.Instr.TheVariants.{Literal, Global, Local, Field, Index, Get, Put, Add, Subtract, Multiply, Divide, Modulo, Negate, Not, Equal, NotEqual, Less, LessOrEqual, Greater, GreaterOrEqual, Jump, JumpIfFalse, AndJump, OrJump, Call, Frame, Return, Turn}
+use Rattle.ob_code_words.specs.declared.instr.Instr.{Instr}
+use Rattle.ob_code_words.specs.declared.instr.Instr.TheVariants.{Literal, Global, Local, Field, Index, Get, Put, Add, Subtract, Multiply, Divide, Modulo, Negate, Not, Equal, NotEqual, Less, LessOrEqual, Greater, GreaterOrEqual, Jump, JumpIfFalse, AndJump, OrJump, Call, Frame, Return, Turn}
 use Rattle.ob_code_machine.specs.declared.saved.Saved.{Saved}
-use Rattle.ob_code_machine.specs.Words.{Made, Gives, Traps, Sticks, ◌>>=◌, address, made_of_one, made_of_two}
-use Rattle.ob_code_machine.specs.Effect.{word_at, put_at, popped, pushed, of_one, of_two, loaded, stored, cleared, stack_effect, effect}
+use Rattle.ob_code_words.specs.Words.{Made, Gives, Traps, Sticks, ◌>>=◌, address, made_of_one, made_of_two}
+use Rattle.ob_code_words.specs.Effect.{word_at, put_at, popped, pushed, of_one, of_two, loaded, stored, cleared, stack_effect, effect}
 use Rattle.ob_code_machine.specs.Machine.{Configuration, Outcome, Unfinished, Returned, Trapped, Stuck, made_then, goes_on, back_to, taking_turn, computed, act, act_at, turn, carried, exec}
 use Rattle.ob_code_machine.specs.Laws.{StackStaysWithin}
 

@@ -4,9 +4,9 @@ use Rattle.ob_code_machine.specs.declared.argument.Argument.{Argument}
 use Rattle.ob_code_machine.specs.declared.argument.Argument.TheVariants.{Value, Var}
 use Rattle.ob_code_machine.specs.declared.turn.BodyTurn.{BodyTurn}
 use Rattle.ob_code_machine.specs.declared.turn.BodyTurn.TheVariants as Answer
-use Rattle.ob_code_machine.specs.declared.instr.Instr.{Instr}
+use Rattle.ob_code_words.specs.declared.instr.Instr.{Instr}
 use Rattle.ob_code_machine.specs.declared.saved.Saved.{Saved}
-use Rattle.ob_code_machine.specs.StackWords.{StackWords}
+use Rattle.ob_code_words.specs.StackWords.{StackWords}
 use Rattle.ob_code_machine.specs.Machine.{BodyState, Configuration, Outcome, Unfinished, Returned, Trapped, Stuck, turn}
 
 -- the words that its stack has room for, whether it is over, and what it holds

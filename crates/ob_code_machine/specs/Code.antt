@@ -1,6 +1,6 @@
 -- Code: a list of instructions, numbered from 0.
 use Rattle.std.specs.Prelude.{ℕ, List}
-use Rattle.ob_code_machine.specs.declared.instr.Instr.{Instr}
+use Rattle.ob_code_words.specs.declared.instr.Instr.{Instr}
 
 pub record CodeParts : Type 0 where
   pub instructions : List Instr

@@ -1,10 +1,7 @@
 -- Laws of the machine.
-use Rattle.std.specs.Prelude.{◌≡◌, ℕ, ◌+◌, ◌<◌, ◌≤◌, true, false, ℤ, pos, ◌+ℤ◌, ◌*ℤ◌, ◌≤ℤ◌, ◌<ℤ◌, List, ◌++◌, length, slice_index_or, slice_set}
-use Rattle.ob_code_machine.specs.declared.instr.Instr.{Instr}
+use Rattle.std.specs.Prelude.{◌≡◌, ℕ, ◌<◌, ◌≤◌, true, false, ℤ, List, length}
+use Rattle.ob_code_words.specs.declared.instr.Instr.{Instr}
 use Rattle.ob_code_machine.specs.declared.turn.BodyTurn.TheVariants as Answer
-use Rattle.ob_code_machine.specs.declared.instr.Instr.TheVariants.{Divide, Modulo}
-use Rattle.ob_code_machine.specs.Words.{Gives, Sticks, made_of_two}
-use Rattle.ob_code_machine.specs.Effect.{word_at, put_at}
 use Rattle.ob_code_machine.specs.Machine.{BodyState, Configuration, Outcome, Unfinished, Returned, Trapped, Stuck, turn, exec}
 use Rattle.ob_code_machine.specs.Body.{Run, Step, step_of, steps}
 
@@ -45,20 +42,6 @@ abbrev pub StackStaysWithin : Type 0
 StackStaysWithin =
     (code : List Instr) (reserve : ℕ) (c d : Configuration) → length c.body.stack ≤ reserve → turn code reserve c ≡ Unfinished d → length d.body.stack ≤ reserve
 
--- DIV and MOD by y: x is the quotient times y and the rest, which is from 0 to y - 1
-pub record DividesDown (x y : ℤ) : Type 0 where
-  pub quotient : ℤ
-  pub rest : ℤ
-  pub divide : made_of_two Divide x y ≡ Gives quotient
-  pub modulo : made_of_two Modulo x y ≡ Gives rest
-  pub whole : x ≡ quotient *ℤ y +ℤ rest
-  pub from_zero : pos 0 ≤ℤ rest
-  pub below : rest <ℤ y
-
--- so it is for each divisor above 0
-abbrev pub DividesAll : Type 0
-DividesAll = (x y : ℤ) → pos 0 <ℤ y → DividesDown x y
-
 -- a body stands so where instructions have come so far
 abbrev pub HasCome : ℕ → Outcome → Step → Type 0
 HasCome reserve (Unfinished c) s = s ≡ record { turn = Answer.On; run = record { reserve = reserve; is_over = false; body = c.body }; block = c.block }
@@ -69,21 +52,3 @@ HasCome reserve Stuck s = s.turn ≡ Answer.Stuck
 -- so many steps of a body that goes on are so many instructions
 abbrev pub StepsAreInstructions : Type 0
 StepsAreInstructions = (code : List Instr) (reserve k : ℕ) (body : BodyState) (block : List ℤ) → HasCome reserve (exec code reserve k (record { block = block; body = body })) (steps code k (record { reserve = reserve; is_over = false; body = body }) block)
-
--- a word that was written at an address: block and stack are the one list with that word, divided where they were
-pub record WritesOne (block stack : List ℤ) (a : ℕ) (w : ℤ) : Type 0 where
-  pub new_block : List ℤ
-  pub new_stack : List ℤ
-  pub put : put_at block stack (pos a) w ≡ Gives (new_block, new_stack)
-  pub whole : new_block ++ new_stack ≡ slice_set (block ++ stack) a w
-  pub divided : length new_block ≡ length block
-
--- the words that have an address are one list, the block and the stack behind it
-pub record IsOneList (block stack : List ℤ) (a : ℕ) : Type 0 where
-  pub reads : a < length block + length stack → word_at block stack (pos a) ≡ Gives (slice_index_or (block ++ stack) a (pos 0))
-  pub writes : (w : ℤ) → a < length block + length stack → WritesOne block stack a w
-  pub reads_nothing : length block + length stack ≤ a → word_at block stack (pos a) ≡ Sticks
-  pub writes_nothing : (w : ℤ) → length block + length stack ≤ a → put_at block stack (pos a) w ≡ Sticks
-
-abbrev pub MemoryIsOneList : Type 0
-MemoryIsOneList = (block stack : List ℤ) (a : ℕ) → IsOneList block stack a

@@ -1,11 +1,11 @@
 -- The stack machine: one instruction, and so many of them.
 use Rattle.std.specs.Prelude.{ℕ, zero, suc, ◌+◌, ◌-◌, nat_lt, nat_le, ℤ, pos, List, [], ◌∷◌, length, take, slice_get, Option, Some, None, if◌then◌else◌}
 use Rattle.std.specs.Ordering.{int_eq}
-use Rattle.ob_code_machine.specs.declared.instr.Instr.{Instr}
-use Rattle.ob_code_machine.specs.declared.instr.Instr.TheVariants.{Jump, JumpIfFalse, AndJump, OrJump, Call, Return, Turn}
+use Rattle.ob_code_words.specs.declared.instr.Instr.{Instr}
+use Rattle.ob_code_words.specs.declared.instr.Instr.TheVariants.{Jump, JumpIfFalse, AndJump, OrJump, Call, Return, Turn}
 use Rattle.ob_code_machine.specs.declared.saved.Saved.{Saved}
-use Rattle.ob_code_machine.specs.Words.{Made, Gives, Traps, Sticks}
-use Rattle.ob_code_machine.specs.Effect.{popped, effect}
+use Rattle.ob_code_words.specs.Words.{Made, Gives, Traps, Sticks}
+use Rattle.ob_code_words.specs.Effect.{popped, effect}
 
 -- what a body holds: the place of its next instruction, the stack from its bottom on, the height at which the running procedure's
 -- frame begins, for each procedure that has called another one, the last first, where it goes on, and the turns that are left

@@ -4,17 +4,18 @@ ghost use Rattle.std.specs.Prelude.{◌≡◌, ◌<◌, ◌+◌, IfOk, slice_get
 ghost use Rattle.ob_code_machine.specs.Machine as Machine;
 ghost use Rattle.ob_code_machine.specs.Body.{ShowsOnAnyBlock, empty, entered, shown, at, step_of};
 ghost use Rattle.ob_code_machine.specs.Parameters.{arguments_in};
+ghost use Rattle.ob_code_words.specs.declared.instr.Instr.TheVariants as Instrs;
 
 mod leaps;
 
 use crate::argument::Argument;
 use crate::code::Code;
-use crate::effect::{Answer, effect};
 use crate::entering::{push_arguments, push_parameters, result_count, var_count};
-use crate::instr::Instr;
 use crate::saved::{Callers, Saved};
-use crate::stack::Stack;
 use crate::turn::BodyTurn;
+use ob_code_words::effect::{Answer, effect, store};
+use ob_code_words::instr::Instr;
+use ob_code_words::stack::Stack;
 use ob_interface::NoMemory;
 use ob_interface::export::Formal;
 use std::alloc::Global;
@@ -277,6 +278,25 @@ impl Body {
                 self.is_over = true;
                 BodyTurn::Returned
             }
+        }
+    }
+
+    /// PUT.
+    #[inline(always)]
+    fn put(&mut self, block: &mut [i64]) -> BodyTurn
+        requires { self.old.body.pc < 65535 }
+        ensures { record { turn = result; run = self.new; block = block.new } ≡ shown self.old block.old (Machine.computed self.old.reserve Instrs.Put (at self.old block.old)) }
+    {
+        match store(block, &mut self.stack) {
+            Answer::Done => {
+                self.pc += 1;
+                BodyTurn::On
+            }
+            Answer::Trap(number) => {
+                self.is_over = true;
+                BodyTurn::Trapped(number)
+            }
+            Answer::Stuck => BodyTurn::Stuck,
         }
     }
 

@@ -3,7 +3,7 @@
 ghost use Rattle.std.specs.Prelude.{◌≡◌, ◌<◌, ◌≤◌, ◌↔◌, [], ◌∷◌, ◌++◌, length, slice_get, slice_set, IfOk, OnOk, OnErr, OnSome};
 
 use crate::fault::CodeFault;
-use crate::instr::Instr;
+use ob_code_words::instr::Instr;
 use ob_interface::NoMemory;
 use std::alloc::Global;
 use std::marker::Model;

@@ -3,10 +3,10 @@
 ghost use Rattle.std.specs.Prelude.{◌≡◌, ◌+◌, ◌^◌, ◌<◌, ◌≤◌, [], ◌∷◌, ◌++◌, length};
 ghost use Rattle.ob_code_machine.specs.Body as Body;
 ghost use Rattle.ob_code_machine.specs.Parameters as Parameters;
-ghost use Rattle.ob_code_machine.specs.StackWords.{with_words};
+ghost use Rattle.ob_code_words.specs.StackWords.{with_words};
 
 use crate::argument::Argument;
-use crate::stack::Stack;
+use ob_code_words::stack::Stack;
 use ob_interface::export::Formal;
 
 /// The results of one parameter: one where it is VAR.

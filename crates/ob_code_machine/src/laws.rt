@@ -1,6 +1,6 @@
 //! Laws of the machine. What a function here ensures is proved; it does nothing.
 
-ghost use Rattle.ob_code_machine.specs.Laws.{StaysOver, StuckChangesNothing, TrapEndsBody, ReturnEndsBody, StepsKeepSizes, StackStaysWithin, DividesAll, MemoryIsOneList, StepsAreInstructions};
+ghost use Rattle.ob_code_machine.specs.Laws.{StaysOver, StuckChangesNothing, TrapEndsBody, ReturnEndsBody, StepsKeepSizes, StackStaysWithin, StepsAreInstructions};
 
 /// A run of instructions that is over stays over: more of them change nothing.
 pub fn stays_over()
@@ -33,17 +33,7 @@ pub fn stack_stays_within()
     ensures { StackStaysWithin }
 {}
 
-/// A quotient is rounded down, and the rest is from 0 to the divisor less one.
-pub fn divides_down()
-    ensures { DividesAll }
-{}
-
 /// So many steps of a body that goes on are so many instructions of the machine.
 pub fn steps_are_instructions()
     ensures { StepsAreInstructions }
-{}
-
-/// The words that have an address are one list: the block, and the stack behind it.
-pub fn memory_is_one_list()
-    ensures { MemoryIsOneList }
 {}

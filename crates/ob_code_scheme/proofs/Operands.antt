@@ -11,8 +11,8 @@ use Rattle.ob_typing.specs.declared.operator.BinaryOperator.TheVariants.{Plus, M
 use Rattle.ob_typing.specs.declared.operator.Relation.{Relation}
 use Rattle.ob_typing.specs.declared.operator.Relation.TheVariants.{Equal, NotEqual, Less, LessOrEqual, Greater, GreaterOrEqual}
 use Rattle.ob_typing.specs.Program.{DataType, Simple, Array, Record, Fields, no_field, field, Owner, OfModule, Own, Name, Expression, Literal, ValueOf, Negated, Complement, Computed, Compared, Operations, no_operation, operation, Designator, Designated, Selectors, no_selector, field_of, element_of, Actual, ByValue, ByPlace, Statement, Assign, Call, If, While, Repeat, Statements, no_statement, statement, Branches, no_branch, otherwise, branch, Parameter, Variable, Procedure, Program}
-use Rattle.ob_code_machine.specs.declared.instr.Instr.{Instr}
-use Rattle.ob_code_machine.specs.declared.instr.Instr.TheVariants as Instrs
+use Rattle.ob_code_words.specs.declared.instr.Instr.{Instr}
+use Rattle.ob_code_words.specs.declared.instr.Instr.TheVariants as Instrs
 use Rattle.ob_code_scheme.specs.Types.{words, words_of_fields, offset, field_type, part_type, part_offset, Space, Holding, Referring, Scope, extent, word_in, space_at, type_at, scope_of, variables_scope, parameters_scope, frame_scope}
 use Rattle.ob_code_scheme.specs.Layout.{word}
 use Rattle.ob_code_scheme.specs.Scheme.{size, variable_size, designator_size, actual_size, statement_size, statements_size, over_size, branches_size, procedure_size, relation_instruction, operator_at, own_code, over_code, variable_code, code_at, operations_at, designator_at, selectors_at, actual_at, actuals_at, statement_at, statements_at, branches_at, procedure_at, procedures_at}

@@ -7,7 +7,7 @@ use Rattle.ob_meaning.specs.ByPositionStore.{Holds, Activation}
 use Rattle.ob_code_scheme.specs.Types.{address, variables_scope}
 use Rattle.ob_code_scheme.specs.Temporaries.{stack_words}
 use Rattle.ob_code_scheme.specs.Layout.{variable_words, word_of, encoded, decoded, layout_of}
-use Rattle.ob_code_machine.specs.declared.instr.Instr.TheVariants.{Literal, Global, Local, Field, Index, Get, Put, Add, Subtract, Greater, GreaterOrEqual, Jump, JumpIfFalse, Call, Frame, Return, Turn}
+use Rattle.ob_code_words.specs.declared.instr.Instr.TheVariants.{Literal, Global, Local, Field, Index, Get, Put, Add, Subtract, Greater, GreaterOrEqual, Jump, JumpIfFalse, Call, Frame, Return, Turn}
 use Rattle.ob_code_machine.specs.Machine.{Returned, Trapped}
 use Rattle.ob_code_scheme.specs.Scheme.{code_of}
 use Rattle.ob_code_scheme.proofs.Samples.{run, meant, answered, failed, Agree, end_at, start, element_field, down, up, counter, forever, sharing, division, logic, choosing, handing, filling, height_of}

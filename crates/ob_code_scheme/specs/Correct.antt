@@ -12,7 +12,7 @@ use Rattle.ob_typing.specs.Program.{DataType, Simple, Variable, Parameter, Proce
 use Rattle.ob_meaning.specs.ByNameObject.{first_argument, other_arguments}
 use Rattle.ob_meaning.specs.ByPositionStore.{Activation}
 use Rattle.ob_meaning.specs.ByPositionObject.{Effect, effect_of_procedure}
-use Rattle.ob_code_machine.specs.declared.instr.Instr.{Instr}
+use Rattle.ob_code_words.specs.declared.instr.Instr.{Instr}
 use Rattle.ob_code_machine.specs.declared.argument.Argument.{Argument}
 use Rattle.ob_code_machine.specs.declared.argument.Argument.TheVariants as Arguments
 use Rattle.ob_code_machine.specs.Code.{CodeParts}

@@ -10,8 +10,8 @@ use Rattle.ob_code_scheme.specs.Types.{extent, total, parameters_scope, frame_sc
 use Rattle.ob_code_scheme.specs.Temporaries.{statement_temporaries, statements_temporaries, branches_temporaries, most_temporaries, largest_frame, stack_words}
 use Rattle.ob_code_scheme.specs.WellFormed.{IsFine, AreFine, AreFineBranches, IsWellFormed}
 use Rattle.ob_code_scheme.specs.Layout.{encoded}
-use Rattle.ob_code_machine.specs.declared.instr.Instr.{Instr}
-use Rattle.ob_code_machine.specs.declared.instr.Instr.TheVariants.{Call}
+use Rattle.ob_code_words.specs.declared.instr.Instr.{Instr}
+use Rattle.ob_code_words.specs.declared.instr.Instr.TheVariants.{Call}
 use Rattle.ob_code_machine.specs.Machine.{Configuration, Returned, exec}
 use Rattle.ob_code_scheme.specs.Scheme.{statement_size, statements_size, branches_size, entry_of, statement_at, statements_at, branches_at, HasAt}
 use Rattle.ob_code_scheme.specs.Image.{position_words, Stops, Runs}

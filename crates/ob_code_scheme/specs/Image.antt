@@ -5,7 +5,7 @@ use Rattle.ob_meaning.specs.ByPositionStore.{Held, Holds, Refers, Activation, St
 use Rattle.ob_meaning.specs.ByPositionStatements.{Outcome, Done, Trap}
 use Rattle.ob_code_scheme.specs.Types.{Scope, total, address, Fits}
 use Rattle.ob_code_scheme.specs.Layout.{flat}
-use Rattle.ob_code_machine.specs.declared.instr.Instr.{Instr}
+use Rattle.ob_code_words.specs.declared.instr.Instr.{Instr}
 use Rattle.ob_code_machine.specs.declared.saved.Saved.{Saved}
 use Rattle.ob_code_machine.specs.Machine.{Configuration, Trapped, exec}
 

@@ -11,8 +11,8 @@ use Rattle.ob_meaning.specs.ByPositionObject.{results_begun}
 use Rattle.ob_code_scheme.specs.Types.{words, inner, Holding, Referring, Scope, extent, word_in, space_at, type_at, variables_scope, results_scope, scope_of, base, total, scope_at, address, IsScalarOf, IsValueOf, IsPath, IsPlaceIn, IsPlace, FitsActivation, Fits, IsStateOf}
 use Rattle.ob_code_scheme.specs.WellFormed.{HasPosition}
 use Rattle.ob_code_scheme.specs.Layout.{variable_words, word_of, word, flat, encoded, decoded}
-use Rattle.ob_code_machine.specs.Words.{Gives}
-use Rattle.ob_code_machine.specs.Effect.{word_at, put_at}
+use Rattle.ob_code_words.specs.Words.{Gives}
+use Rattle.ob_code_words.specs.Effect.{word_at, put_at}
 use Rattle.ob_code_scheme.specs.Image.{Scopes, all, position_words, store_words}
 
 -- ---- how many words there are

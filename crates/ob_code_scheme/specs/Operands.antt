@@ -1,7 +1,7 @@
 -- The operands of instructions, and which of them have 16 bits.
 use Rattle.std.specs.Prelude.{ℕ, ◌≤◌, max}
-use Rattle.ob_code_machine.specs.declared.instr.Instr.{Instr}
-use Rattle.ob_code_machine.specs.declared.instr.Instr.TheVariants as Instrs
+use Rattle.ob_code_words.specs.declared.instr.Instr.{Instr}
+use Rattle.ob_code_words.specs.declared.instr.Instr.TheVariants as Instrs
 
 -- the greatest operand of an instruction; 0 where it has none, and of a jump, whose target is a place of the code
 abbrev pub largest_operand : Instr → ℕ

@@ -5,7 +5,7 @@ use Rattle.ob_typing.specs.Arithmetic.{Evaluated}
 use Rattle.ob_meaning.specs.ByPositionStore.{Store}
 use Rattle.ob_meaning.specs.ByPositionStatements.{Outcome, Done, Trap, Run, after, then_run}
 use Rattle.ob_code_scheme.specs.Types.{Scope, Fits}
-use Rattle.ob_code_machine.specs.declared.instr.Instr.{Instr}
+use Rattle.ob_code_words.specs.declared.instr.Instr.{Instr}
 use Rattle.ob_code_machine.specs.declared.saved.Saved.{Saved}
 use Rattle.ob_code_machine.specs.Machine.{Configuration, Unfinished, Trapped, turn}
 use Rattle.ob_code_scheme.specs.Scheme.{size, operations_size, designator_size, selectors_size, actuals_size, statement_size, statements_size, branches_size, procedure_size, entry_of, code_at, operations_at, designator_at, selectors_at, actuals_at, statement_at, statements_at, branches_at, procedure_at, code_of, HasAt}

@@ -10,7 +10,7 @@ use Rattle.ob_code_scheme.specs.Types.{Scope, extent, total, address, variables_
 use Rattle.ob_code_scheme.specs.Temporaries.{temporaries, operations_temporaries, designator_temporaries, selectors_temporaries, actuals_temporaries, stack_words}
 use Rattle.ob_code_scheme.specs.WellFormed.{IsOf, AreOf, Designates, Selects, AreActuals, IsWellFormed}
 use Rattle.ob_code_scheme.specs.Layout.{word}
-use Rattle.ob_code_machine.specs.declared.instr.Instr.{Instr}
+use Rattle.ob_code_words.specs.declared.instr.Instr.{Instr}
 use Rattle.ob_code_machine.specs.declared.saved.Saved.{Saved}
 use Rattle.ob_code_machine.specs.Machine.{Configuration}
 use Rattle.ob_code_scheme.specs.Scheme.{size, operations_size, designator_size, selectors_size, actuals_size, entry_of, code_at, operations_at, designator_at, selectors_at, actuals_at, procedure_at, HasAt}

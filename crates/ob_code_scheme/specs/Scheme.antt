@@ -9,8 +9,8 @@ use Rattle.ob_typing.specs.Program.{DataType, Owner, OfModule, Own, Expression, 
 use Rattle.ob_code_scheme.specs.Types.{words, part_type, part_offset, Space, Holding, Referring, Scope, word_in, space_at, type_at, scope_of, variables_scope, frame_scope}
 use Rattle.ob_code_scheme.specs.Layout.{word, variable_words}
 use Rattle.ob_code_machine.specs.Code.{CodeParts}
-use Rattle.ob_code_machine.specs.declared.instr.Instr.{Instr}
-use Rattle.ob_code_machine.specs.declared.instr.Instr.TheVariants as Instrs
+use Rattle.ob_code_words.specs.declared.instr.Instr.{Instr}
+use Rattle.ob_code_words.specs.declared.instr.Instr.TheVariants as Instrs
 
 -- ---- lengths
 

@@ -7,7 +7,7 @@ use Rattle.ob_code_machine.specs.Body.{Run, empty, enter, entered, result_count,
 use Rattle.ob_code_machine.specs.Machine as Machine
 use Rattle.ob_code_machine.specs.Machine.{BodyState, Outcome, Unfinished, turn}
 use Rattle.ob_code_machine.specs.declared.argument.Argument.{Argument}
-use Rattle.ob_code_machine.specs.declared.instr.Instr.{Instr}
+use Rattle.ob_code_words.specs.declared.instr.Instr.{Instr}
 use Rattle.ob_code_machine.specs.declared.saved.Saved.{Saved}
 use Rattle.ob_code_correct.proofs.Entries.{entry_is, no_entry}
 use Rattle.ob_code_scheme.specs.Layout.{variable_words}

@@ -7,7 +7,7 @@ use Rattle.ob_checked.specs.declared.program.Parameter.{Parameter}
 use Rattle.ob_checked.specs.declared.program.Procedure.{Procedure}
 use Rattle.ob_checked.specs.declared.program.Statement.{Statement}
 use Rattle.ob_checked.specs.View.{parameter_of, procedure_of, statements_in}
-use Rattle.ob_code_machine.specs.declared.instr.Instr.TheVariants as Instrs
+use Rattle.ob_code_words.specs.declared.instr.Instr.TheVariants as Instrs
 use Rattle.ob_code_scheme.specs.Types.{Scope, extent, scope_at, parameters_scope, frame_scope, variables_scope}
 use Rattle.ob_code_scheme.specs.Layout.{variable_words}
 use Rattle.ob_tree_law.specs.Work.{All, Instruction, Leaving, procedure_tasks}

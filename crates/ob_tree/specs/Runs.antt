@@ -1,7 +1,7 @@
 -- What runs over a tree stand for, and by what they are told apart.
 use Rattle.std.specs.Prelude.{ℕ, Bool, List, ℤ, refl}
 use Rattle.std.specs.Coded.{Coded, coded_ℕ, coded_ℤ, coded_bool, coded_list, coded×, code_by}
-use Rattle.ob_code_machine.specs.StackWords.{StackWords}
+use Rattle.ob_code_words.specs.StackWords.{StackWords}
 use Rattle.ob_tree_law.specs.Work.{Task, TreeBody}
 use Rattle.ob_tree_tasks.specs.Codes.{coded_task}
 use Rattle.ob_tree_tasks.specs.WorkTasks.{WorkTasks}

@@ -10,7 +10,7 @@ use crate::body_run::TreeRun;
 use crate::effects::effect_at_once;
 use ob_checked::program::{Branch, Expression, Statement};
 use ob_code_machine::Instr;
-use ob_code_machine::effect::Answer;
+use ob_code_words::effect::Answer;
 use ob_tree_tasks::statements::follows;
 use ob_tree_tasks::{Scopes, Task};
 use wf_object::EngineTurn;

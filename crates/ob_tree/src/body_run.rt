@@ -4,7 +4,7 @@ ghost use Rattle.std.specs.Prelude.{◌≡◌, IfOk, slice_index_or, true, pos};
 ghost use Rattle.ob_tree_law.specs.TreeEngine.{tree_empty};
 
 use crate::frame_places::Frames;
-use ob_code_machine::stack::Stack;
+use ob_code_words::stack::Stack;
 use ob_interface::NoMemory;
 use ob_tree_tasks::WorkList;
 use std::alloc::Global;

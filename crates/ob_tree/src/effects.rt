@@ -2,14 +2,14 @@
 //! at all instructions.
 
 ghost use Rattle.std.specs.Prelude.{◌≡◌, pos, MatchOption};
-ghost use Rattle.ob_code_machine.specs.declared.instr.Instr.{Instr};
-ghost use Rattle.ob_code_machine.specs.Words as Words;
-ghost use Rattle.ob_code_machine.specs.Effect as Effects;
-ghost use Rattle.ob_code_machine.specs.Running.{HasEffect, LeavesStack};
+ghost use Rattle.ob_code_words.specs.declared.instr.Instr.{Instr};
+ghost use Rattle.ob_code_words.specs.Words as Words;
+ghost use Rattle.ob_code_words.specs.Effect as Effects;
+ghost use Rattle.ob_code_words.specs.Running.{HasEffect, LeavesStack};
 
 use ob_code_machine::Instr;
-use ob_code_machine::effect::{Answer, effect, load, push, push_local, store};
-use ob_code_machine::stack::Stack;
+use ob_code_words::effect::{Answer, effect, load, push, push_local, store};
+use ob_code_words::stack::Stack;
 
 /// Pushes a number.
 #[inline(always)]

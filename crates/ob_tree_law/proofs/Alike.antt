@@ -4,10 +4,10 @@ use Rattle.std.specs.Prelude.{slice_get, nat_le, nat_lt, if◌then◌else◌}
 use Rattle.std.specs.Ordering.{int_eq}
 use Rattle.ob_typing.specs.Program.{Branches, no_branch, otherwise, branch, Procedure, Program, While, Repeat}
 use Rattle.ob_code_scheme.specs.Types.{Scope, variables_scope}
-use Rattle.ob_code_machine.specs.declared.instr.Instr.{Instr}
-use Rattle.ob_code_machine.specs.declared.instr.Instr.TheVariants as Instrs
-use Rattle.ob_code_machine.specs.Words.{Made, Gives, Traps, Sticks}
-use Rattle.ob_code_machine.specs.Effect.{popped, effect}
+use Rattle.ob_code_words.specs.declared.instr.Instr.{Instr}
+use Rattle.ob_code_words.specs.declared.instr.Instr.TheVariants as Instrs
+use Rattle.ob_code_words.specs.Words.{Made, Gives, Traps, Sticks}
+use Rattle.ob_code_words.specs.Effect.{popped, effect}
 use Rattle.ob_code_machine.specs.declared.argument.Argument.{Argument}
 use Rattle.ob_code_machine.specs.Body.{enter}
 use Rattle.ob_code_machine.specs.declared.saved.Saved.{Saved}

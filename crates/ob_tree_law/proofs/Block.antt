@@ -3,10 +3,10 @@ use Rattle.std.proofs.Common.{◌≡◌, ℕ, zero, suc, ◌-◌, Bool, true, fa
 use Rattle.std.specs.Prelude.{nat_le, nat_lt, slice_set, if◌then◌else◌}
 use Rattle.std.specs.Ordering.{int_eq}
 use Rattle.ob_typing.specs.Program.{Program}
-use Rattle.ob_code_machine.specs.declared.instr.Instr.{Instr}
-use Rattle.ob_code_machine.specs.declared.instr.Instr.TheVariants.{Put}
-use Rattle.ob_code_machine.specs.Words.{Made, Gives, Traps, Sticks, ◌>>=◌}
-use Rattle.ob_code_machine.specs.Effect.{popped, put_at, stored, stack_effect, effect}
+use Rattle.ob_code_words.specs.declared.instr.Instr.{Instr}
+use Rattle.ob_code_words.specs.declared.instr.Instr.TheVariants.{Put}
+use Rattle.ob_code_words.specs.Words.{Made, Gives, Traps, Sticks, ◌>>=◌}
+use Rattle.ob_code_words.specs.Effect.{popped, put_at, stored, stack_effect, effect}
 use Rattle.ob_code_scheme.specs.Types.{variables_scope}
 use Rattle.ob_tree_law.specs.Work.{Task, Instruction, AndThen, OrElse, Alternative, Over, Looping, Again, Until, Taking, Calling, Leaving, TreeState, Answer, On, Finished, Failed, Lost, opened, made_on, taking, leaving_to, does, does_first, step}
 use Rattle.ob_tree_law.specs.TreeEngine.{TreeRun, tree_shown, tree_step}

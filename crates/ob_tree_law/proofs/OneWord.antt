@@ -3,8 +3,8 @@ use Rattle.std.proofs.Common.{◌≡◌, ℕ, zero, suc, Bool, true, false, ℤ,
 use Rattle.std.specs.Prelude.{pos, nat_le, nat_lt, if◌then◌else◌}
 use Rattle.std.specs.Ordering.{int_eq}
 use Rattle.ob_typing.specs.Program.{Program}
-use Rattle.ob_code_machine.specs.Words.{Made, Gives, Traps, Sticks, ◌>>=◌}
-use Rattle.ob_code_machine.specs.Effect.{popped, effect}
+use Rattle.ob_code_words.specs.Words.{Made, Gives, Traps, Sticks, ◌>>=◌}
+use Rattle.ob_code_words.specs.Effect.{popped, effect}
 use Rattle.ob_code_scheme.specs.Types.{variables_scope}
 use Rattle.wf_table.specs.Meaning.{Turned}
 use Rattle.wf_table.specs.Law.{TouchesOneWord}

@@ -9,8 +9,8 @@ use Rattle.ob_typing.specs.declared.operator.Relation.{Relation}
 use Rattle.ob_typing.specs.Program.{DataType, OfModule, Slot, Name, Expression, Literal, ValueOf, Negated, Complement, Computed, Compared, Operations, operation, Designator, Designated, Selectors, field_of, element_of, Actual, Statement, Assign, Call, While, Repeat, Statements, statement, Branches, branch, Procedure}
 use Rattle.ob_code_scheme.specs.Types.{words, part_type, part_offset, Holding, Referring, Scope, word_in, type_at, scope_of, frame_scope}
 use Rattle.ob_code_scheme.specs.Layout.{word, variable_words}
-use Rattle.ob_code_machine.specs.declared.instr.Instr.{Instr}
-use Rattle.ob_code_machine.specs.declared.instr.Instr.TheVariants as Instrs
+use Rattle.ob_code_words.specs.declared.instr.Instr.{Instr}
+use Rattle.ob_code_words.specs.declared.instr.Instr.TheVariants as Instrs
 use Rattle.ob_code_scheme.specs.Scheme.{over_size, variable_size, size, designator_size, actual_size, actuals_size, statement_size, statements_size, branches_size, relation_instruction, operator_at, own_code, over_code, variable_code, code_at, operations_at, designator_at, selectors_at, actual_at, actuals_at, statement_at, statements_at, branches_at, procedure_at, HasAt}
 use Rattle.ob_code_correct.proofs.Lengths.{operator_long, over_long, variable_long, code_long, designator_long, actual_long, actuals_long, statement_long, statements_long}
 use Rattle.ob_code_correct.proofs.Placed.{has_front, has_behind, has_moved}

@@ -7,8 +7,8 @@ use Rattle.ob_typing.specs.declared.operator.Relation.{Relation}
 use Rattle.ob_typing.specs.declared.operator.Relation.TheVariants.{Equal, NotEqual, Less, LessOrEqual, Greater, GreaterOrEqual}
 use Rattle.ob_typing.specs.Program.{DataType, Owner, OfModule, Own, Expression, Literal, ValueOf, Negated, Complement, Computed, Compared, Operations, no_operation, operation, Designator, Designated, Selectors, no_selector, field_of, element_of, Actual, ByValue, ByPlace, Statement, Assign, Call, If, While, Repeat, Statements, no_statement, statement, Branches, no_branch, otherwise, branch}
 use Rattle.ob_code_scheme.specs.Types.{part_type, Space, Holding, Referring, Scope, word_in, space_at, type_at, scope_of}
-use Rattle.ob_code_machine.specs.declared.instr.Instr.{Instr}
-use Rattle.ob_code_machine.specs.declared.instr.Instr.TheVariants as Instrs
+use Rattle.ob_code_words.specs.declared.instr.Instr.{Instr}
+use Rattle.ob_code_words.specs.declared.instr.Instr.TheVariants as Instrs
 use Rattle.ob_code_machine.specs.declared.saved.Saved.{Saved}
 use Rattle.ob_code_scheme.specs.Scheme.{variable_size, own_size, size, operations_size, designator_size, selectors_size, actuals_size, statement_size, statements_size, branches_size, relation_instruction, own_code, variable_code, operations_at, statements_at, HasAt}
 use Rattle.ob_tree_law.proofs.Opened.{open_value, open_negated, open_complement, open_computed, open_compared, open_plus, open_minus, open_times, open_div, open_mod, open_and, open_or, open_designator, open_element, open_actual, open_assign, open_call, open_while, open_repeat, open_statement, open_branch}

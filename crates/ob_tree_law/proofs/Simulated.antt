@@ -6,7 +6,7 @@ use Rattle.ob_code_scheme.specs.Types.{Scope, variables_scope}
 use Rattle.ob_code_scheme.specs.Temporaries.{stack_words}
 use Rattle.ob_code_scheme.specs.Layout.{variable_words}
 use Rattle.ob_interface.specs.Call.{ObjectCall}
-use Rattle.ob_code_machine.specs.declared.instr.Instr.{Instr}
+use Rattle.ob_code_words.specs.declared.instr.Instr.{Instr}
 use Rattle.ob_code_machine.specs.declared.saved.Saved.{Saved}
 use Rattle.ob_code_machine.specs.Machine.{BodyState, Configuration, Outcome, Unfinished, turn}
 use Rattle.ob_code_machine.specs.Machine as Machine

@@ -7,8 +7,8 @@ use Rattle.std.proofs.lemmas.Bool.Decides.{nat_tests}
 use Rattle.ob_typing.specs.declared.operator.BinaryOperator.TheVariants.{Plus, Minus, Times, Div, Mod, And, Or}
 use Rattle.ob_typing.specs.Program.{DataType, Owner, OfModule, Own, Expression, Literal, ValueOf, Negated, Complement, Computed, Compared, Operations, no_operation, operation, Designator, Designated, Selectors, no_selector, field_of, element_of, Actual, ByValue, ByPlace, Statement, Assign, Call, If, While, Repeat, Statements, no_statement, statement, Branches, no_branch, otherwise, branch, Procedure, Program}
 use Rattle.ob_code_scheme.specs.Types.{part_type, Space, Holding, Referring, Scope, word_in, space_at, type_at, scope_of, variables_scope}
-use Rattle.ob_code_machine.specs.Words.{Made, Gives, Traps, Sticks}
-use Rattle.ob_code_machine.specs.Effect.{popped, effect}
+use Rattle.ob_code_words.specs.Words.{Made, Gives, Traps, Sticks}
+use Rattle.ob_code_words.specs.Effect.{popped, effect}
 use Rattle.ob_tree_law.specs.Work.{Task, Value, Operators, Address, Selecting, Handing, Doing, All, Choosing, Instruction, AndThen, OrElse, Alternative, Over, Looping, Again, Until, Taking, Calling, Leaving, own_tasks, variable_tasks, over_tasks, operators_left, selecting_left, handing_left, all_left, value_parts, operators_parts, address_parts, selecting_parts, handing_parts, doing_parts, all_parts, choosing_parts, parts, given_way, opened_by, opened, TreeBody, TreeState, Answer, On, Finished, Failed, Lost, made_on, taking, procedure_tasks, leaving_to, does, does_first, step, carried_on, steps}
 use Rattle.ob_tree_law.specs.Reserve.{value_most, operators_most, address_most, selecting_most, handing_most, doing_most, all_most, choosing_most, procedure_most, activation_most, task_most, IsLow, KeepsWithin, AnswerKeepsWithin}
 

@@ -7,10 +7,10 @@ use Rattle.ob_typing.specs.declared.operator.BinaryOperator.TheVariants.{Plus, M
 use Rattle.ob_typing.specs.Program.{DataType, Owner, OfModule, Own, Expression, Literal, ValueOf, Negated, Complement, Computed, Compared, Operations, no_operation, operation, Designator, Designated, Selectors, no_selector, field_of, element_of, Actual, ByValue, ByPlace, Statement, Assign, Call, If, While, Repeat, Statements, no_statement, statement, Branches, no_branch, otherwise, branch, Procedure, Program}
 use Rattle.ob_code_scheme.specs.Types.{words, part_type, part_offset, Space, Holding, Referring, Scope, word_in, space_at, type_at, scope_of, variables_scope, frame_scope}
 use Rattle.ob_code_scheme.specs.Layout.{word, variable_words}
-use Rattle.ob_code_machine.specs.declared.instr.Instr.{Instr}
-use Rattle.ob_code_machine.specs.declared.instr.Instr.TheVariants as Instrs
-use Rattle.ob_code_machine.specs.Words.{Made, Gives, Traps, Sticks}
-use Rattle.ob_code_machine.specs.Effect.{popped, effect}
+use Rattle.ob_code_words.specs.declared.instr.Instr.{Instr}
+use Rattle.ob_code_words.specs.declared.instr.Instr.TheVariants as Instrs
+use Rattle.ob_code_words.specs.Words.{Made, Gives, Traps, Sticks}
+use Rattle.ob_code_words.specs.Effect.{popped, effect}
 use Rattle.ob_code_machine.specs.declared.argument.Argument.{Argument}
 use Rattle.ob_code_machine.specs.Body.{result_count, handed}
 use Rattle.ob_code_scheme.specs.Scheme.{relation_instruction}

@@ -8,8 +8,8 @@ use Rattle.ob_interface.specs.contracts.scalar.ScalarType as ScalarTypes
 use Rattle.ob_typing.specs.contracts.operator.BinaryOperator as Operators
 use Rattle.ob_typing.specs.contracts.operator.Relation as Relations
 use Rattle.ob_typing.specs.Program.{DataType, Simple, Array, Record, Fields, no_field, field, Name, Owner, OfModule, Own, Slot, Expression, Literal, ValueOf, Negated, Complement, Computed, Compared, Operations, no_operation, operation, Designator, Designated, Selectors, no_selector, field_of, element_of, Actual, ByValue, ByPlace, Statement, Assign, Call, If, While, Repeat, Statements, no_statement, statement, Branches, no_branch, otherwise, branch}
-use Rattle.ob_code_machine.specs.contracts.instr.Instr as Instrs
-use Rattle.ob_code_machine.specs.declared.instr.Instr.{Instr}
+use Rattle.ob_code_words.specs.contracts.instr.Instr as Instrs
+use Rattle.ob_code_words.specs.declared.instr.Instr.{Instr}
 use Rattle.ob_code_scheme.specs.Types.{Space, Holding, Referring, Scope}
 use Rattle.ob_tree_law.specs.Work.{Task, Value, Operators, Address, Selecting, Handing, Doing, All, Choosing, Instruction, AndThen, OrElse, Alternative, Over, Looping, Again, Until, Taking, Calling, Leaving}
 

@@ -1,7 +1,7 @@
 -- What a task over a variable or a selector gives way to, and when its instructions have operands of 16 bits.
 use Rattle.std.specs.Prelude.{◌≡◌, ℕ, ◌+◌, ◌<◌, ◌≤◌, Bool, true, false, List, [], ◌∷◌, ◌++◌, length}
 use Rattle.ob_typing.specs.Program.{DataType, OfModule, Designated, Selectors, no_selector, field_of, element_of, Branches, no_branch}
-use Rattle.ob_code_machine.specs.declared.instr.Instr.TheVariants as Instrs
+use Rattle.ob_code_words.specs.declared.instr.Instr.TheVariants as Instrs
 use Rattle.ob_code_scheme.specs.Types.{words, part_type, part_offset, Scope, word_in, space_at, type_at, scope_of}
 use Rattle.ob_tree_law.specs.Work.{Task, Value, Operators, Address, Selecting, Handing, Doing, All, Choosing, Instruction, own_tasks, variable_tasks, selecting_left, opened_by, opened, work_nodes}
 use Rattle.ob_tree_tasks.specs.WorkTasks.{WorkTasks}

@@ -1,6 +1,6 @@
 //! Steps of one body in a row: nothing of a step but its instruction is done for each of them.
 
-ghost use Rattle.std.specs.Prelude.{◌≡◌, ℕ, ◌<◌, ◌≤◌, length, take};
+ghost use Rattle.std.specs.Prelude.{◌≡◌, ℕ, ◌<◌, ◌≤◌, take};
 ghost use Rattle.ll_cell.specs.Cell.{refill_own};
 ghost use Rattle.wf_object.specs.InBody.{body_behind, cell_behind, process_behind};
 ghost use Rattle.wf_object.specs.Packed.{packed};
@@ -15,34 +15,8 @@ use crate::steps::leave_body;
 use ll_cell::Shared;
 use wf_table::{EngineTurn, Sizes};
 
-/// Steps of a body on a block, at most so many, up to the first behind which it doesn't go on: how many they are, and what the
-/// last one answers. It stands apart, so that what a step of the body needs is at hand in the loop.
-#[inline(never)]
-fn run_on<E: Engine>(
-    engine: &E,
-    run: &mut E::Run,
-    block: &mut [i64],
-    most: u64,
-) -> (u64, EngineTurn)
-    requires ready { E.ready engine.now run.old }
-    requires block { length block.old ≡ (E.meaning engine.now).variables }
-    ensures few { result.0 ≤ most }
-    ensures some { 0 < most → 0 < result.0 }
-    ensures on { (j : ℕ) → j < result.0 → (steps (E.meaning engine.now) j run.old block.old).turn ≡ Turn.On }
-    ensures turn { result.1 ≡ (steps (E.meaning engine.now) result.0 run.old block.old).turn }
-    ensures run { run.new ≡ (steps (E.meaning engine.now) result.0 run.old block.old).run }
-    ensures block { block.new ≡ (steps (E.meaning engine.now) result.0 run.old block.old).block }
-{
-    for count in 0..most {
-        match engine.step(run, block) {
-            EngineTurn::On => {}
-            turn => return (count + 1, turn),
-        }
-    }
-    (most, EngineTurn::On)
-}
-
-/// The same on the variables of p's own block.
+/// Steps of a body on the variables of p's own block, at most so many, up to the first behind which it doesn't go on: how many they
+/// are, and what the last one answers.
 fn run_on_own<E: Engine>(
     engine: &E,
     z: Sizes,
@@ -65,10 +39,10 @@ fn run_on_own<E: Engine>(
     ensures turn { result.1 ≡ (steps (E.meaning engine.now) result.0 run.old (take z.variables (own_block shared.old.cell p))).turn }
 {
     let block = shared.own_words(p, z.variables);
-    run_on(engine, run, block, most)
+    engine.steps(run, block, most)
 }
 
-/// One step of the body on the variables of p's own block: the first one of the loop, so that the engine's step stands at one place.
+/// One step of the body on the variables of p's own block: a row of one step, so that the engine is asked for steps at one place.
 pub fn step_body<E: Engine>(
     engine: &E,
     z: Sizes,

@@ -10,10 +10,11 @@ use wf_table::EngineTurn;
 pub trait Engine: Drop {
     type Run: Drop;
 
-    ghost use Rattle.std.specs.Prelude.{◌≡◌, ◌<◌, ◌+◌, length, List, ℤ, IfOk};
+    ghost use Rattle.std.specs.Prelude.{◌≡◌, ◌<◌, ◌≤◌, ◌+◌, length, List, ℕ, ℤ, IfOk};
     ghost use Rattle.ob_interface.specs.Call.{ObjectCall, Reply};
     ghost use Rattle.ob_interface.specs.View.{call_of, reply_of};
-    ghost use Rattle.wf_table.specs.Meaning.{Meaning};
+    ghost use Rattle.wf_table.specs.declared.engine_turn.EngineTurn.TheVariants as Turn;
+    ghost use Rattle.wf_table.specs.Meaning.{Meaning, steps};
     ghost use Rattle.wf_table.specs.Law.{IsLawful};
 
     /// What the engine computes: numbers of words, and what the steps of a body do.
@@ -67,6 +68,29 @@ pub trait Engine: Drop {
         ensures turn { result ≡ ((meaning self.now).step run.old block.old).turn }
         ensures run { run.new ≡ ((meaning self.now).step run.old block.old).run }
         ensures block { block.new ≡ ((meaning self.now).step run.old block.old).block };
+
+    /// Steps of the body on a block, at most so many, up to the first behind which it doesn't go on: how many they are, and what the
+    /// last one answers. Here they are made one by one; an engine may make them in a quicker way. The function stands apart, so that
+    /// what a step needs is at hand in the loop.
+    #[inline(never)]
+    fn steps(&self, run: &mut Self::Run, block: &mut [i64], most: u64) -> (u64, EngineTurn)
+        requires ready { ready self.now run.old }
+        requires block { length block.old ≡ (meaning self.now).variables }
+        ensures few { result.0 ≤ most }
+        ensures some { 0 < most → 0 < result.0 }
+        ensures on { (j : ℕ) → j < result.0 → (steps (meaning self.now) j run.old block.old).turn ≡ Turn.On }
+        ensures turn { result.1 ≡ (steps (meaning self.now) result.0 run.old block.old).turn }
+        ensures run { run.new ≡ (steps (meaning self.now) result.0 run.old block.old).run }
+        ensures block { block.new ≡ (steps (meaning self.now) result.0 run.old block.old).block }
+    {
+        for count in 0..most {
+            match self.step(run, block) {
+                EngineTurn::On => {}
+                turn => return (count + 1, turn),
+            }
+        }
+        (most, EngineTurn::On)
+    }
 
     /// Result i of a body that has returned.
     fn result(&self, run: &Self::Run, i: usize) -> i64

@@ -1,63 +1,226 @@
-//! Steps of a body by one or two: where an instruction brings a word that only the next one takes, both are one move.
+//! Steps of a body by leaps: where an instruction brings what only the next one takes, they are one move.
 
-ghost use Rattle.std.specs.Prelude.{◌≡◌, ◌+◌, ◌<◌, ◌≤◌, ◌↔◌, false, IsTrue, List, MatchBool, Some, slice_get, ℤ};
-ghost use Rattle.ob_code_machine.specs.Body.{steps};
-ghost use Rattle.ob_code_machine.specs.Leaps.{AreMade, Brings, IsComputed, MakesBoth, MakesBothOnAnyBlock};
-ghost use Rattle.ob_code_machine.specs.declared.instr.Instr.TheVariants as Instrs;
+ghost use Rattle.std.specs.Prelude.{◌≡◌, ◌+◌, ◌-◌, ◌<◌, ◌≤◌, ◌↔◌, ◌∷◌, ◌++◌, [], ℕ, false, IfSome, IsTrue, List, length, MatchBool, Some, slice_get, take, ℤ};
+ghost use Rattle.ob_code_machine.specs.Body.{ShowsOnAnyBlock, at, shown, steps};
+ghost use Rattle.ob_code_machine.specs.Leaps.{AreMade, Assigns, Brings, Goes, IsComputed, IsLeap, IsMadeWith, IsOperator, MakesBoth, MakesBothOnAnyBlock, PutsIf, behind_both};
+ghost use Rattle.ob_code_machine.specs.Machine as Machine;
+ghost use Rattle.ob_code_words.specs.declared.instr.Instr.TheVariants as Instrs;
+ghost use Rattle.ob_code_machine.specs.declared.turn.BodyTurn.TheVariants as Answers;
 
 use super::Body;
 use crate::code::Code;
-use crate::effect::{local_word, word_at};
-use crate::instr::Instr;
-use crate::stack_operators::{Made, made_of_one, made_of_two};
 use crate::turn::BodyTurn;
+use ob_code_words::effect::{
+    Answer, local_word, of_one, of_two, push, push_local, put_at, word_at,
+};
+use ob_code_words::instr::Instr;
+use ob_code_words::stack_operators::{Made, made_of_one, made_of_two};
 
 impl Body {
-    /// One step, or two that are one move: what the last of them answers, and how many they were.
-    #[inline(always)]
-    pub fn leap(&mut self, code: &Code, block: &mut [i64]) -> (BodyTurn, u64)
-        ensures some { 0 < result.1 }
-        ensures few { result.1 ≤ 2 }
-        ensures steps { record { turn = result.0; run = self.new; block = block.new } ≡ steps code.now.instructions result.1 self.old block.old }
+    /// Steps of a body on a block, at most so many, up to the first behind which it doesn't go on: how many they are, and what the last
+    /// one answers. It stands apart, so that what a step needs is at hand in the loop.
+    #[inline(never)]
+    pub fn run_on(&mut self, code: &Code, block: &mut [i64], most: u64) -> (u64, BodyTurn)
+        ensures few { result.0 ≤ most }
+        ensures some { 0 < most → 0 < result.0 }
+        ensures on { (j : ℕ) → j < result.0 → (steps code.now.instructions j self.old block.old).turn ≡ Answers.On }
+        ensures taken { record { turn = result.1; run = self.new; block = block.new } ≡ steps code.now.instructions result.0 self.old block.old }
+        ensures all { record { turn = result.1; run = self.new; block = block.new } ≡ steps code.now.instructions most self.old block.old }
     {
-        if self.is_over {
-            return (BodyTurn::Stuck, 1);
+        if most == 0 {
+            return (0, BodyTurn::On);
         }
+        if self.is_over {
+            return (1, BodyTurn::Stuck);
+        }
+        let mut left = most;
+        while left >= 3 {
+            let (turn, taken) = self.leap(code, block);
+            left -= taken;
+            match turn {
+                BodyTurn::On => {}
+                turn => return (most - left, turn),
+            }
+        }
+        let (taken, turn) = self.walk(code, block, left);
+        (most - left + taken, turn)
+    }
+
+    /// The same, each step by itself.
+    fn walk(&mut self, code: &Code, block: &mut [i64], most: u64) -> (u64, BodyTurn)
+        ensures few { result.0 ≤ most }
+        ensures some { 0 < most → 0 < result.0 }
+        ensures on { (j : ℕ) → j < result.0 → (steps code.now.instructions j self.old block.old).turn ≡ Answers.On }
+        ensures taken { record { turn = result.1; run = self.new; block = block.new } ≡ steps code.now.instructions result.0 self.old block.old }
+        ensures all { record { turn = result.1; run = self.new; block = block.new } ≡ steps code.now.instructions most self.old block.old }
+    {
+        for count in 0..most {
+            match self.step(code, block) {
+                BodyTurn::On => {}
+                turn => return (count + 1, turn),
+            }
+        }
+        (most, BodyTurn::On)
+    }
+
+    /// One step, or some that are one move: what the last of them answers, and how many they were.
+    #[inline(always)]
+    fn leap(&mut self, code: &Code, block: &mut [i64]) -> (BodyTurn, u64)
+        requires works { self.old.is_over ≡ false }
+        ensures { IsLeap code.now.instructions result.0 result.1 self.old block.old self.new block.new }
+    {
         let Some(instr) = code.instruction(self.pc) else {
             return (BodyTurn::Stuck, 1);
         };
-        if self.makes_both(code, instr, block) {
-            return (BodyTurn::On, 2);
-        }
-        (self.act(instr, block), 1)
-    }
-
-    /// Whether the instruction at the body's place and the one behind it were made as one move.
-    #[tactic(auto, using(crate::proofs::Leaps::made_if))]
-    #[inline(always)]
-    fn makes_both(&mut self, code: &Code, instr: Instr, block: &[i64]) -> bool
-        requires works { self.old.is_over ≡ false }
-        requires here { slice_get code.now.instructions self.old.body.pc ≡ Some instr }
-        requires within { self.old.body.pc < 65535 }
-        ensures { MatchBool result (AreMade code.now.instructions self.old self.new block.now) (self.new ≡ self.old) }
-    {
         match instr {
-            Instr::Local { word } => self.is_got(code) && self.get_local(word, block),
-            Instr::Global { word } => self.is_got(code) && self.get_global(word, block),
-            Instr::Field { offset } => self.is_got(code) && self.get_field(offset, block),
+            Instr::Put => (self.put(block), 1),
+            Instr::Literal { value } => self.leap_from_literal(code, value, block),
+            Instr::Add => self.leap_from_operator(code, Instr::Add, block),
+            Instr::Subtract => self.leap_from_operator(code, Instr::Subtract, block),
+            Instr::Multiply => self.leap_from_operator(code, Instr::Multiply, block),
+            Instr::Equal => self.leap_from_comparison(code, Instr::Equal, block),
+            Instr::NotEqual => self.leap_from_comparison(code, Instr::NotEqual, block),
+            Instr::Less => self.leap_from_comparison(code, Instr::Less, block),
+            Instr::LessOrEqual => self.leap_from_comparison(code, Instr::LessOrEqual, block),
+            Instr::Greater => self.leap_from_comparison(code, Instr::Greater, block),
+            Instr::GreaterOrEqual => self.leap_from_comparison(code, Instr::GreaterOrEqual, block),
+            Instr::Local { word } => self.leap_from_local(code, word, block),
+            Instr::Global { word } => self.leap_from_global(code, word, block),
+            Instr::Field { offset } => self.leap_from_field(code, offset, block),
             Instr::Index {
                 length,
                 element_words,
-            } => self.is_got(code) && self.get_element(length, element_words, block),
-            Instr::Literal { value } => self.is_operand(code, value),
-            Instr::Equal => self.is_condition(code, Instr::Equal),
-            Instr::NotEqual => self.is_condition(code, Instr::NotEqual),
-            Instr::Less => self.is_condition(code, Instr::Less),
-            Instr::LessOrEqual => self.is_condition(code, Instr::LessOrEqual),
-            Instr::Greater => self.is_condition(code, Instr::Greater),
-            Instr::GreaterOrEqual => self.is_condition(code, Instr::GreaterOrEqual),
-            _ => false,
+            } => self.leap_from_index(code, length, element_words, block),
+            _ => (self.act(instr, block), 1),
         }
+    }
+
+    /// An instruction that makes a word of two; where PUT stands behind it, both.
+    #[inline(always)]
+    fn leap_from_operator(
+        &mut self,
+        code: &Code,
+        instr: Instr,
+        block: &mut [i64],
+    ) -> (BodyTurn, u64)
+        requires works { self.old.is_over ≡ false }
+        requires operator { IsOperator instr }
+        requires here { slice_get code.now.instructions self.old.body.pc ≡ Some instr }
+        requires within { self.old.body.pc < 65535 }
+        ensures { IsLeap code.now.instructions result.0 result.1 self.old block.old self.new block.new }
+    {
+        if self.is_put_ahead(code, 1) && self.assigns(instr, block) {
+            return (BodyTurn::On, 2);
+        }
+        (self.combine(instr), 1)
+    }
+
+    /// A comparison; where JF stands behind it, both, and the turn that is taken behind JF.
+    #[inline(always)]
+    fn leap_from_comparison(&mut self, code: &Code, instr: Instr, block: &[i64]) -> (BodyTurn, u64)
+        requires works { self.old.is_over ≡ false }
+        requires operator { IsOperator instr }
+        requires here { slice_get code.now.instructions self.old.body.pc ≡ Some instr }
+        requires within { self.old.body.pc < 65535 }
+        ensures { IsLeap code.now.instructions result.0 result.1 self.old block.now self.new block.now }
+    {
+        if !self.is_condition(code, instr) {
+            return (self.combine(instr), 1);
+        }
+        if self.takes_turn(code) {
+            return (BodyTurn::On, 3);
+        }
+        (BodyTurn::On, 2)
+    }
+
+    /// LIT; where an operator stands behind it, both, and PUT behind that.
+    #[inline(always)]
+    fn leap_from_literal(&mut self, code: &Code, value: i32, block: &mut [i64]) -> (BodyTurn, u64)
+        requires works { self.old.is_over ≡ false }
+        requires here { slice_get code.now.instructions self.old.body.pc ≡ Some (Instrs.Literal value) }
+        requires within { self.old.body.pc < 65535 }
+        ensures { IsLeap code.now.instructions result.0 result.1 self.old block.old self.new block.new }
+    {
+        let Some(word) = self.made_with(code, value) else {
+            return (self.push_literal(value), 1);
+        };
+        if self.puts_made(code, word, block) {
+            return (BodyTurn::On, 3);
+        }
+        self.keep_made(word);
+        (BodyTurn::On, 2)
+    }
+
+    /// LOC; where GET stands behind it, both.
+    #[tactic(auto, using(crate::proofs::Leaps::leap_if))]
+    #[inline(always)]
+    fn leap_from_local(&mut self, code: &Code, word: u16, block: &[i64]) -> (BodyTurn, u64)
+        requires works { self.old.is_over ≡ false }
+        requires here { slice_get code.now.instructions self.old.body.pc ≡ Some (Instrs.Local word) }
+        requires within { self.old.body.pc < 65535 }
+        ensures { IsLeap code.now.instructions result.0 result.1 self.old block.now self.new block.now }
+    {
+        if self.is_got(code) && self.get_local(word, block) {
+            return (BodyTurn::On, 2);
+        }
+        (self.push_local(word, block), 1)
+    }
+
+    /// GLOB; where GET stands behind it, both.
+    #[tactic(auto, using(crate::proofs::Leaps::leap_if))]
+    #[inline(always)]
+    fn leap_from_global(&mut self, code: &Code, word: u16, block: &[i64]) -> (BodyTurn, u64)
+        requires works { self.old.is_over ≡ false }
+        requires here { slice_get code.now.instructions self.old.body.pc ≡ Some (Instrs.Global word) }
+        requires within { self.old.body.pc < 65535 }
+        ensures { IsLeap code.now.instructions result.0 result.1 self.old block.now self.new block.now }
+    {
+        if self.is_got(code) && self.get_global(word, block) {
+            return (BodyTurn::On, 2);
+        }
+        (self.push_global(word), 1)
+    }
+
+    /// FLD; where GET stands behind it, both.
+    #[tactic(auto, using(crate::proofs::Leaps::leap_if))]
+    #[inline(always)]
+    fn leap_from_field(&mut self, code: &Code, offset: u16, block: &[i64]) -> (BodyTurn, u64)
+        requires works { self.old.is_over ≡ false }
+        requires here { slice_get code.now.instructions self.old.body.pc ≡ Some (Instrs.Field offset) }
+        requires within { self.old.body.pc < 65535 }
+        ensures { IsLeap code.now.instructions result.0 result.1 self.old block.now self.new block.now }
+    {
+        if self.is_got(code) && self.get_field(offset, block) {
+            return (BodyTurn::On, 2);
+        }
+        (self.go_to_field(offset), 1)
+    }
+
+    /// IDX; where GET stands behind it, both.
+    #[tactic(auto, using(crate::proofs::Leaps::leap_if))]
+    #[inline(always)]
+    fn leap_from_index(
+        &mut self,
+        code: &Code,
+        length: u16,
+        element_words: u16,
+        block: &[i64],
+    ) -> (BodyTurn, u64)
+        requires works { self.old.is_over ≡ false }
+        requires here { slice_get code.now.instructions self.old.body.pc ≡ Some (Instrs.Index length element_words) }
+        requires within { self.old.body.pc < 65535 }
+        ensures { IsLeap code.now.instructions result.0 result.1 self.old block.now self.new block.now }
+    {
+        if self.is_got(code) && self.get_element(length, element_words, block) {
+            return (BodyTurn::On, 2);
+        }
+        (
+            self.combine(Instr::Index {
+                length,
+                element_words,
+            }),
+            1,
+        )
     }
 
     /// Whether the next instruction but one is GET.
@@ -72,18 +235,172 @@ impl Body {
         }
     }
 
-    /// Whether a number was pushed and the next instruction made on it.
-    #[tactic(auto, using(crate::proofs::Leaps::made_if))]
+    /// Whether PUT stands so many instructions ahead.
     #[inline(always)]
-    fn is_operand(&mut self, code: &Code, value: i32) -> bool
-        requires works { self.old.is_over ≡ false }
-        requires here { slice_get code.now.instructions self.old.body.pc ≡ Some (Instrs.Literal value) }
-        requires within { self.old.body.pc < 65535 }
-        ensures { (block : List ℤ) → MatchBool result (AreMade code.now.instructions self.old self.new block) (self.new ≡ self.old) }
+    fn is_put_ahead(&self, code: &Code, ahead: usize) -> bool
+        requires within { self.now.body.pc < 65535 }
+        requires few { ahead ≤ 2 }
+        ensures { IsTrue result → slice_get code.now.instructions (self.now.body.pc + ahead) ≡ Some Instrs.Put }
     {
-        match code.instruction(self.pc + 1) {
-            Some(second) => self.compute_with(value, second),
-            None => false,
+        match code.instruction(self.pc + ahead) {
+            Some(Instr::Put) => true,
+            _ => false,
+        }
+    }
+
+    /// The word that the next instruction makes of the word on top and a number, where there is room for that number.
+    #[inline(always)]
+    fn made_with(&self, code: &Code, value: i32) -> Option<i64>
+        requires { self.now.body.pc < 65535 }
+        ensures { IfSome result (IsMadeWith code.now.instructions self.now value) }
+    {
+        let Some(second) = code.instruction(self.pc + 1) else {
+            return None;
+        };
+        if self.stack.room() == 0 {
+            return None;
+        }
+        let Some(x) = self.stack.top() else {
+            return None;
+        };
+        match made_of_two(second, x, i64::from(value)) {
+            Made::Word(word) => Some(word),
+            _ => None,
+        }
+    }
+
+    /// Puts a word at the address of this height, and goes on so many instructions behind, where there is such an address.
+    #[inline(always)]
+    fn puts(&mut self, height: usize, behind: usize, word: i64, block: &mut [i64]) -> bool
+        requires within { self.old.body.pc < 65535 }
+        requires height { height < length self.old.body.stack }
+        requires few { behind ≤ 3 }
+        ensures { PutsIf result height behind word self.old block.old self.new block.new }
+    {
+        let address = self.stack.word(height);
+        if !put_at(block, &mut self.stack, height, address, word) {
+            return false;
+        }
+        self.pc += behind;
+        true
+    }
+
+    /// Puts the word that was made of the one on top, where PUT stands behind.
+    #[inline(always)]
+    fn puts_made(&mut self, code: &Code, word: i64, block: &mut [i64]) -> bool
+        requires { self.old.body.pc < 65535 }
+        ensures puts { PutsIf result (length self.old.body.stack - 2) 3 word self.old block.old self.new block.new }
+        ensures high { IsTrue result → 2 ≤ length self.old.body.stack }
+        ensures there { IsTrue result → slice_get code.now.instructions (self.old.body.pc + 2) ≡ Some Instrs.Put }
+    {
+        let height = self.stack.height();
+        self.is_put_ahead(code, 2) && height >= 2 && self.puts(height - 2, 3, word, block)
+    }
+
+    /// Leaves the word that was made in place of the one on top.
+    #[inline(always)]
+    fn keep_made(&mut self, word: i64)
+        requires some { 0 < length self.old.body.stack }
+        requires within { self.old.body.pc < 65535 }
+        ensures { self.new ≡ behind_both self.old (take (length self.old.body.stack - 1) self.old.body.stack ++ word ∷ []) }
+    {
+        self.stack.replace_top(word);
+        self.pc += 2;
+    }
+
+    /// Puts what an operator makes of the two words on top.
+    #[inline(always)]
+    fn assigns(&mut self, instr: Instr, block: &mut [i64]) -> bool
+        requires { self.old.body.pc < 65535 }
+        ensures { MatchBool result (Assigns instr self.old block.old self.new block.new) ((self.new ≡ self.old) × (block.new ≡ block.old)) }
+    {
+        let Some((x, y)) = self.stack.two() else {
+            return false;
+        };
+        let Made::Word(word) = made_of_two(instr, x, y) else {
+            return false;
+        };
+        let height = self.stack.height();
+        height >= 3 && self.puts(height - 3, 2, word, block)
+    }
+
+    /// One that makes a word of two, by itself.
+    #[inline(always)]
+    fn combine(&mut self, instr: Instr) -> BodyTurn
+        requires operator { IsOperator instr }
+        requires within { self.old.body.pc < 65535 }
+        ensures { ShowsOnAnyBlock result self.old self.new (Machine.act self.old.reserve instr) }
+    {
+        match of_two(&mut self.stack, instr) {
+            Answer::Done => {
+                self.pc += 1;
+                BodyTurn::On
+            }
+            Answer::Trap(number) => {
+                self.is_over = true;
+                BodyTurn::Trapped(number)
+            }
+            Answer::Stuck => BodyTurn::Stuck,
+        }
+    }
+
+    /// LIT by itself.
+    #[inline(always)]
+    fn push_literal(&mut self, value: i32) -> BodyTurn
+        requires { self.old.body.pc < 65535 }
+        ensures { ShowsOnAnyBlock result self.old self.new (Machine.act self.old.reserve (Instrs.Literal value)) }
+    {
+        match push(&mut self.stack, i64::from(value)) {
+            Answer::Done => {
+                self.pc += 1;
+                BodyTurn::On
+            }
+            _ => BodyTurn::Stuck,
+        }
+    }
+
+    /// GLOB by itself.
+    #[inline(always)]
+    fn push_global(&mut self, word: u16) -> BodyTurn
+        requires { self.old.body.pc < 65535 }
+        ensures { ShowsOnAnyBlock result self.old self.new (Machine.act self.old.reserve (Instrs.Global word)) }
+    {
+        match push(&mut self.stack, i64::from(word)) {
+            Answer::Done => {
+                self.pc += 1;
+                BodyTurn::On
+            }
+            _ => BodyTurn::Stuck,
+        }
+    }
+
+    /// LOC by itself.
+    #[inline(always)]
+    fn push_local(&mut self, word: u16, block: &[i64]) -> BodyTurn
+        requires { self.old.body.pc < 65535 }
+        ensures { record { turn = result; run = self.new; block = block.now } ≡ shown self.old block.now (Machine.act self.old.reserve (Instrs.Local word) (at self.old block.now)) }
+    {
+        match push_local(block, &mut self.stack, self.fp, word) {
+            Answer::Done => {
+                self.pc += 1;
+                BodyTurn::On
+            }
+            _ => BodyTurn::Stuck,
+        }
+    }
+
+    /// FLD by itself.
+    #[inline(always)]
+    fn go_to_field(&mut self, offset: u16) -> BodyTurn
+        requires { self.old.body.pc < 65535 }
+        ensures { ShowsOnAnyBlock result self.old self.new (Machine.act self.old.reserve (Instrs.Field offset)) }
+    {
+        match of_one(&mut self.stack, Instr::Field { offset }) {
+            Answer::Done => {
+                self.pc += 1;
+                BodyTurn::On
+            }
+            _ => BodyTurn::Stuck,
         }
     }
 
@@ -99,6 +416,25 @@ impl Body {
     {
         match code.instruction(self.pc + 1) {
             Some(Instr::JumpIfFalse { target }) => self.test(instr, target),
+            _ => false,
+        }
+    }
+
+    /// Whether TURN stands at the body's place, and a turn was taken.
+    #[inline(always)]
+    fn takes_turn(&mut self, code: &Code) -> bool
+        requires works { self.old.is_over ≡ false }
+        ensures { (block : List ℤ) → MatchBool result (Goes code.now.instructions 1 self.old block self.new block) (self.new ≡ self.old) }
+    {
+        if self.turns == 0 {
+            return false;
+        }
+        match code.instruction(self.pc) {
+            Some(Instr::Turn) => {
+                self.turns -= 1;
+                self.pc += 1;
+                true
+            }
             _ => false,
         }
     }
@@ -189,27 +525,6 @@ impl Body {
             return false;
         };
         self.stack.replace_two(value);
-        self.pc += 2;
-        true
-    }
-
-    /// LIT and an operator: the number is its right operand.
-    #[tactic(auto, using(crate::proofs::Leaps::operand_taken))]
-    #[inline(always)]
-    fn compute_with(&mut self, value: i32, second: Instr) -> bool
-        requires { self.old.body.pc < 65535 }
-        ensures { MakesBothOnAnyBlock result (Instrs.Literal value) second self.old self.new }
-    {
-        if self.stack.room() == 0 {
-            return false;
-        }
-        let Some(x) = self.stack.top() else {
-            return false;
-        };
-        let Made::Word(word) = made_of_two(second, x, i64::from(value)) else {
-            return false;
-        };
-        self.stack.replace_top(word);
         self.pc += 2;
         true
     }

@@ -2,7 +2,7 @@ use Rattle.std.proofs.Common.{refl, ap, arith, rules}
 use Rattle.std.proofs.lemmas.Result.{on_ok_weaker}
 use Rattle.ob_typing.specs.declared.operator.BinaryOperator.TheVariants.{Plus, Minus, Times, Div, Mod, And, Or}
 use Rattle.ob_code_scheme.specs.Types.{words}
-use Rattle.ob_code_machine.specs.declared.instr.Instr.TheVariants as Instrs
+use Rattle.ob_code_words.specs.declared.instr.Instr.TheVariants as Instrs
 use Rattle.ob_checked.specs.View.{selectors_in}
 use Rattle.ob_code.specs.Scoped.{globals_in, own_in, type_in}
 use Rattle.ob_code.proofs.Weights.{weight_of_selectors, value_falls, negated_falls, complement_falls, computed_falls, compared_falls, operand_at, index_falls, selector_at}

@@ -1,31 +1,40 @@
-use Rattle.std.proofs.Common.{◌≡◌, List, ◌∷◌, map, take, length, sym, ap, ◌∙◌, arith, to_z, of_z, w64, to_z-of_z}
-use Rattle.std.specs.Prelude.{ℤ, pos}
-use Rattle.std.proofs.lemmas.List.{length-map, length-take-le}
-use Rattle.ob_code_scheme.specs.Layout.{word}
+use Rattle.std.proofs.Common.{◌≡◌, ◌∙◌, ◌≤◌, ◌∷◌, ap, sym, refl, arith, length, map, to_z, of_z, w64, to_z-of_z}
+use Rattle.std.specs.Prelude.{pos}
+use Rattle.std.proofs.lemmas.List.{length-set, take_all}
+use Rattle.ob_code_engine.proofs.Laid.{laid_next, length_padded, word_behind}
 use Rattle.ob_code_correct.specs.CodeMeaning.{padded}
-use Rattle.ob_code_engine.proofs.Laid.{first_laid, set_next, words_next}
+use Rattle.ob_code_scheme.specs.Layout.{word}
 use Rattle.ob_code_engine.proofs.call_words.lay.Goals as goal
 
-pub loop-argument-init : goal.loop-argument-init
-loop-argument-init c =
+pub loop-place-init : goal.loop-place-init
+loop-place-init c =
     let small = c.requires.number in
     let same : to_z w64 c.args.proc ≡ pos c.args.proc = search (arith, small) in
+    let some = c.requires.room in
     record {
-      place = omega arith;
-      laid = first_laid (length c.args.words.now) c.clear.new.words (to_z w64 c.args.proc) (pos c.args.proc) c.clear.ensures (omega (arith, c.requires.room)) same;
+      behind = omega arith;
+      laid = laid_next (length c.args.words.now) (pos c.args.proc ∷ map word c.args.arguments.now) c.args.words.now 0 (to_z w64 c.args.proc) refl some same refl;
     }
 
-pub loop-argument-preserved : goal.loop-argument-preserved
-loop-argument-preserved c =
-    let items = c.args.arguments.now in
-    let i = c.loop-argument.argument-index in
-    let less = c.loop-argument-test.true in
-    let long : length (map word (take i items)) ≡ i = length-map (take i items) word ∙ length-take-le i items (omega (arith, less)) in
+pub loop-place-preserved : goal.loop-place-preserved
+loop-place-preserved c =
+    let i = c.loop-place.place in
+    let n = length c.args.words.now in
+    let arguments = c.args.arguments.now in
+    let h = c.loop-place.invariant in
+    let long = length-set c.args.words.now 0 (to_z w64 c.args.proc) in
     let same : to_z w64 (of_z w64 c.word_of_scalar.result) ≡ c.word_of_scalar.result = search (arith, to_z-of_z) in
-    let is = same ∙ c.word_of_scalar.ensures in
+    let is = same ∙ c.word_of_scalar.ensures ∙ ap word c.argument_at.ensures ∙ word_behind (pos c.args.proc) arguments i h.behind in
     record {
-      place = omega (arith, c.loop-argument.invariant.place);
-      laid = set_next (length c.args.words.now) (pos c.args.proc) (map word (take i items)) c.loop-argument.place c.loop-argument.words _ _ c.loop-argument.invariant.laid
-          (omega (arith, c.loop-argument.invariant.place, long)) (omega (arith, long, less, c.requires.room)) is
-          ∙ ap (λ (ws : List ℤ). padded (length c.args.words.now) (pos c.args.proc ∷ ws)) (sym (words_next items i _ less));
+      behind = omega (arith, h.behind);
+      laid = laid_next n (pos c.args.proc ∷ map word arguments) c.loop-place.words i (to_z w64 (of_z w64 c.word_of_scalar.result)) (omega (arith, long)) (omega (arith, long)) is h.laid;
     }
+
+pub returns : goal.returns
+returns c =
+    let n = length c.args.words.now in
+    let i = c.loop-place.place in
+    let long = length-set c.args.words.now 0 (to_z w64 c.args.proc) in
+    let all : n ≤ i = omega (arith, long) in
+    let words = pos c.args.proc ∷ map word c.args.arguments.now in
+    sym (take_all i c.loop-place.words (omega (arith, long, all))) ∙ c.loop-place.invariant.laid ∙ take_all i (padded n words) (omega (arith, length_padded n words, all))

@@ -1,6 +1,6 @@
 use Rattle.std.proofs.Common.{◌≡◌, ◌≤◌, ◌++◌, take}
 use Rattle.ob_code_machine.specs.Body.{result_count, handed}
-use Rattle.ob_code_machine.specs.StackWords.{with_words}
+use Rattle.ob_code_words.specs.StackWords.{with_words}
 use Rattle.ob_code_machine.proofs.entering.push_arguments.Given as goal
 
 abbrev pub invariant-loop-argument : goal.invariant-loop-argument

@@ -1,11 +1,11 @@
 use Rattle.std.proofs.Common.{◌-◌, [], ◌∷◌, ◌++◌, length, take, FitsSigned, w64, ap, ◌∙◌, refl, rules, sym, subst}
 use Rattle.std.proofs.lemmas.Int.{to_z-of_z}
-use Rattle.ob_code_machine.specs.declared.effect.Answer.TheVariants.{Done, Trap}
-use Rattle.ob_code_machine.specs.declared.instr.Instr.TheVariants.{Add}
-use Rattle.ob_code_machine.specs.Words.{Gives, Traps, made_of_two}
-use Rattle.ob_code_machine.specs.StackWords.{with_words}
-use Rattle.ob_code_machine.specs.Running.{LeavesStack}
-use Rattle.ob_code_machine.proofs.Tops.{made_at, of_two_made}
+use Rattle.ob_code_words.specs.declared.effect.Answer.TheVariants.{Done, Trap}
+use Rattle.ob_code_words.specs.declared.instr.Instr.TheVariants.{Add}
+use Rattle.ob_code_words.specs.Words.{Gives, Traps, made_of_two}
+use Rattle.ob_code_words.specs.StackWords.{with_words}
+use Rattle.ob_code_words.specs.Running.{LeavesStack}
+use Rattle.ob_code_words.proofs.Tops.{made_at, of_two_made}
 use Rattle.ob_tree.proofs.effects.add.Goals as goal
 
 pub returns-in-Some-sum : goal.returns-in-Some-sum

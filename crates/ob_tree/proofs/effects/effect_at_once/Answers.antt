@@ -1,8 +1,8 @@
 use Rattle.std.proofs.Common.{FitsSigned, w32, rules, subst}
 use Rattle.std.proofs.lemmas.Int.{to_z-of_z}
-use Rattle.ob_code_machine.specs.Words.{Gives, ◌>>=◌}
-use Rattle.ob_code_machine.specs.Effect.{pushed}
-use Rattle.ob_code_machine.specs.Running.{HasEffect}
+use Rattle.ob_code_words.specs.Words.{Gives, ◌>>=◌}
+use Rattle.ob_code_words.specs.Effect.{pushed}
+use Rattle.ob_code_words.specs.Running.{HasEffect}
 use Rattle.ob_tree.proofs.Kept.{keeps_block}
 use Rattle.ob_tree.proofs.effects.effect_at_once.Goals as goal
 

@@ -12,12 +12,3 @@ lay-requires-clause-number c =
     let within = slice_get_within c.args.self.now.parts.exports c.args.call.now.proc f.entrance f.there in
     let same : length c.self.inside.exports.items ≡ length c.args.self.now.parts.exports = ap (λ (v : CompiledParts). length v.parts.exports) c.self.view_is in
     omega (arith, within, same, c.self.inside.exports.ok, c.self.inside.exports.small)
-
-pub lay-requires-clause-room : goal.lay-requires-clause-room
-lay-requires-clause-room c =
-    let f = c.requires.fits in
-    let count = arguments_count f.entrance.parameters c.args.call.now.args.items f.typed in
-    let has = most_has value_count c.args.self.now.parts.exports c.args.call.now.proc f.entrance f.there in
-    let long = c.requires.words in
-    let same = ap length c.as_slice.ensures in
-    omega (arith, count, has, long, same)

@@ -1,11 +1,11 @@
 use Rattle.std.proofs.Common.{◌+◌, ◌-◌, [], ◌∷◌, ◌++◌, length, take, FitsSigned, w64, ap, ◌∙◌, rules, sym}
 use Rattle.std.proofs.lemmas.Int.{to_z-of_z}
-use Rattle.ob_code_machine.specs.declared.instr.Instr.TheVariants.{Index, Get}
+use Rattle.ob_code_words.specs.declared.instr.Instr.TheVariants.{Index, Get}
 use Rattle.ob_code_machine.specs.Body.{at, run_view}
-use Rattle.ob_code_machine.specs.StackWords.{with_words}
-use Rattle.ob_code_machine.specs.Effect.{word_at}
-use Rattle.ob_code_machine.specs.Words.{made_of_two}
-use Rattle.ob_code_machine.proofs.Tops.{made_at}
+use Rattle.ob_code_words.specs.StackWords.{with_words}
+use Rattle.ob_code_words.specs.Effect.{word_at}
+use Rattle.ob_code_words.specs.Words.{made_of_two}
+use Rattle.ob_code_words.proofs.Tops.{made_at}
 use Rattle.ob_code_machine.proofs.Leaps.{element_got, lead_of}
 use Rattle.ob_code_machine.proofs.body.Body.get_element.Goals as goal
 

@@ -1,10 +1,10 @@
 use Rattle.std.proofs.Common.{◌+◌, ◌-◌, [], ◌∷◌, ◌++◌, length, take, FitsSigned, w64, ap, ◌∙◌, rules, sym}
 use Rattle.std.proofs.lemmas.Int.{to_z-of_z}
-use Rattle.ob_code_machine.specs.declared.instr.Instr.TheVariants.{Field, Get}
+use Rattle.ob_code_words.specs.declared.instr.Instr.TheVariants.{Field, Get}
 use Rattle.ob_code_machine.specs.Body.{at, run_view}
-use Rattle.ob_code_machine.specs.StackWords.{with_words}
-use Rattle.ob_code_machine.specs.Effect.{word_at}
-use Rattle.ob_code_machine.specs.Words.{made_of_one}
+use Rattle.ob_code_words.specs.StackWords.{with_words}
+use Rattle.ob_code_words.specs.Effect.{word_at}
+use Rattle.ob_code_words.specs.Words.{made_of_one}
 use Rattle.ob_code_machine.proofs.Leaps.{field_got, lead_of}
 use Rattle.ob_code_machine.proofs.body.Body.get_field.Goals as goal
 

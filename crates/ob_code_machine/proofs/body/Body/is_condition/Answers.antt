@@ -1,5 +1,5 @@
 use Rattle.std.proofs.Common.{◌+◌, Some, slice_get, ap, ◌∙◌, sym}
-use Rattle.ob_code_machine.specs.declared.instr.Instr.TheVariants.{JumpIfFalse}
+use Rattle.ob_code_words.specs.declared.instr.Instr.TheVariants.{JumpIfFalse}
 use Rattle.ob_code_machine.specs.Body.{Run}
 use Rattle.ob_code_machine.proofs.Leaps.{made_if}
 use Rattle.ob_code_machine.proofs.body.Body.is_condition.Goals as goal

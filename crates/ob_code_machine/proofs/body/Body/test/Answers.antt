@@ -2,12 +2,12 @@ use Rattle.std.proofs.Common.{◌≡◌, ◌+◌, ◌-◌, length, take, FitsSig
 use Rattle.std.specs.Prelude.{if◌then◌else◌}
 use Rattle.std.specs.Ordering.{int_eq}
 use Rattle.std.proofs.lemmas.Int.{to_z-of_z}
-use Rattle.ob_code_machine.specs.declared.instr.Instr.TheVariants.{JumpIfFalse}
+use Rattle.ob_code_words.specs.declared.instr.Instr.TheVariants.{JumpIfFalse}
 use Rattle.ob_code_machine.specs.Body.{at, run_view}
 use Rattle.ob_code_machine.specs.Machine.{Unfinished}
-use Rattle.ob_code_machine.specs.StackWords.{with_words}
-use Rattle.ob_code_machine.specs.Words.{made_of_two}
-use Rattle.ob_code_machine.proofs.Tops.{made_at}
+use Rattle.ob_code_words.specs.StackWords.{with_words}
+use Rattle.ob_code_words.specs.Words.{made_of_two}
+use Rattle.ob_code_words.proofs.Tops.{made_at}
 use Rattle.ob_code_machine.proofs.Leaps.{tested, lead_of}
 use Rattle.ob_code_machine.proofs.body.Body.test.Goals as goal
 

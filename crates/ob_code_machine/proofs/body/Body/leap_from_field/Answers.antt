@@ -1,0 +1,20 @@
+use Rattle.std.proofs.Common.{◌≡◌, ◌∙◌, subst}
+use Rattle.ob_code_words.specs.declared.instr.Instr.TheVariants.{Field}
+use Rattle.ob_code_machine.specs.Body.{Run}
+use Rattle.ob_code_machine.specs.Machine.{act}
+use Rattle.ob_code_machine.specs.Body.{at, shown}
+use Rattle.ob_code_machine.proofs.Leaps.{by_itself}
+use Rattle.ob_code_machine.proofs.body.Body.leap_from_field.Goals as goal
+use Rattle.ob_code_machine.proofs.body.Body.leap_from_field.Goals.{else-is_got-via-then-is_got+else-get_field, else-is_got-via-else-is_got}
+
+pub returns : goal.returns
+returns c =
+    let code = c.args.code.now.instructions in
+    let block = c.args.block.now in
+    let instr = Field c.args.offset in
+    let same : c.else-is_got.self ≡ c.args.self.now = elim c.else-is_got.branch [
+      | else-is_got-via-then-is_got+else-get_field w ↦ w.self-is ∙ w.if-get_field.ensures
+      | else-is_got-via-else-is_got w ↦ w.self-is
+    ] in
+    by_itself code c.args.self.now c.go_to_field.new.self block c.go_to_field.result instr c.requires.works c.requires.here
+    (subst (λ (r : Run). record { turn = c.go_to_field.result; run = c.go_to_field.new.self; block = block } ≡ shown r block (act r.reserve instr (at r block))) same (c.go_to_field.ensures block))

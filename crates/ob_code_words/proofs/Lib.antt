@@ -1,0 +1,4 @@
+pub mod Tops
+mod Variants
+pub mod Division
+pub mod Memory
